@@ -1,0 +1,118 @@
+-- A block and its number, each undoing the other; exclusive or of blocks; a block of sixteen bytes.
+-- Assumes nothing.
+use mathlib.Core.Path.{_≡_, refl, sym, ap, ap₂, _∙_, subst}
+use mathlib.Core.List.{List, _++_}
+use Prim.Native.Nat.{ℕ, _+_, _-_, _*_, _^_, _≤_, _<_, min}
+use native.Mathlib.Nat.{div-eq-of-lt}
+use native.Mathlib.Omega.{arith}
+use lib.Arith.{digits-lt}
+use lib.Bits.{bitXor, xor-block}
+use lib.ListN.{length, getD, take, drop, length-take, length-drop, replicate, drop-of-length-le}
+use lib.Pow.{split, high, low}
+use lib.Seq.{drop-drop, sets, take-append-le, take-append-add}
+use Rattle.words.specs.declared.Block.{Block}
+use Rattle.words.specs.Block.{value, halves, part, stored}
+use Rattle.words.specs.Bytes.{Bytes, number, bytes, filled}
+use Rattle.words.proofs.Lists.{drop-take, sets-append, sets-cut}
+use Rattle.words.proofs.Bytes.{bytes-take, bytes-drop, bytes-filled, number-lt, number-split, number-zeros, length-bytes, take-bytes, bytes-append, length-filled, filled-same, take-filled, drop-filled, drop-filled-past}
+
+pub value-halves : (x : ℕ) → value (halves x) ≡ x
+unfolding value halves
+value-halves x = split x 64
+
+pub value-lt : (b : Block) → b .lo < 2 ^ 64 → b .hi < 2 ^ 64 → value b < 2 ^ 128
+unfolding value
+value-lt b hl hh = digits-lt hh hl
+
+-- the block of two halves
+pub halves-pair : (hi lo : ℕ) → lo < 2 ^ 64 → halves (hi * 2 ^ 64 + lo) ≡ record { lo = lo; hi = hi }
+unfolding halves
+halves-pair hi lo h = rw (high hi 64 h, low hi 64 h)
+
+pub halves-value : (b : Block) → b .lo < 2 ^ 64 → halves (value b) ≡ b
+unfolding value
+halves-value b h = halves-pair (b .hi) (b .lo) h
+
+-- a block that is known by its number is known whole
+pub whole : (b : Block) {x : ℕ} → b .lo < 2 ^ 64 → value b ≡ x → b ≡ halves x
+whole b h e = sym (halves-value b h) ∙ ap halves e
+
+pub xor-halves : (a b : Block) → a .lo < 2 ^ 64 → b .lo < 2 ^ 64
+    → value (record { lo = bitXor (a .lo) (b .lo); hi = bitXor (a .hi) (b .hi) }) ≡ bitXor (value a) (value b)
+unfolding value
+xor-halves a b ha hb = sym (xor-block 64 (a .hi) (b .hi) (a .lo) (b .lo) ha hb)
+
+-- ---- the block of sixteen bytes
+
+number-halves : (s : List ℕ) → Bytes s → length s ≡ 16 → halves (number s) ≡ record { lo = number (take 8 s); hi = number (drop 8 s) }
+number-halves s h e =
+    let l : length (take 8 s) ≡ 8 = simp length-take (omega arith) in
+    ap halves (number-split 8 s)
+    ∙ halves-pair (number (drop 8 s)) (number (take 8 s)) (subst (λ (n : ℕ). number (take 8 s) < 256 ^ n) l (number-lt (take 8 s) (bytes-take 8 s h)))
+
+module _ (s : List ℕ) (h : Bytes s) (t : ℕ) (small : t < 256) (at n m : ℕ) (e : m ≡ min n (min 16 (length s - at))) where
+  cut : halves (number (filled t 16 (part s at n))) ≡ halves (number (filled t 16 (part s at m)))
+  cut = ap (λ (l : List ℕ). halves (number l)) (filled-same t 16 n m (drop at s) (rw length-drop (omega arith)))
+
+  halved : halves (number (filled t 16 (part s at n))) ≡ record { lo = number (filled t 8 (part s at m)); hi = number (drop 8 (filled t 16 (part s at m))) }
+  halved =
+      let d = part s at m in
+      cut
+      ∙ number-halves (filled t 16 d) (bytes-filled t 16 d small (bytes-take m (drop at s) (bytes-drop at s h))) (length-filled t 16 d)
+      ∙ rw (take-filled t 8 16 d (omega arith))
+
+  length-part : length (part s at m) ≡ m
+  length-part = simp (length-take, length-drop) (omega arith)
+
+  pub short : m < 8 → halves (number (filled t 16 (part s at n))) ≡ record { lo = number (filled t 8 (part s at m)); hi = 0 }
+  short k = halved ∙ rw (drop-filled-past t 8 16 (part s at m) (omega (arith, length-part)), number-zeros 8)
+
+  pub long : 8 ≤ m → halves (number (filled t 16 (part s at n)))
+      ≡ record { lo = number (filled t 8 (part s at 8)); hi = number (filled t 8 (part s (at + 8) (m - 8))) }
+  long k =
+      halved
+      ∙ rw (
+        filled-same t 8 m 8 (drop at s) (rw length-drop (omega arith)),
+        drop-filled t 8 16 (part s at m) (omega (arith, length-part)),
+        drop-take 8 m (drop at s),
+        drop-drop,
+      )
+
+-- ---- the first bytes of a block, stored
+
+module _ (s : List ℕ) (b : Block) (small : b .lo < 2 ^ 64) (at n m : ℕ) (e : m ≡ min n (min 16 (length s - at))) where
+  sixteen : bytes 16 (value b) ≡ bytes 8 (b .lo) ++ bytes 8 (b .hi)
+  unfolding value
+  sixteen = bytes-append 8 8 (b .lo) (b .hi) small
+
+  first : take n (bytes 16 (value b)) ≡ bytes (min n 16) (value b)
+  first = take-bytes n 16 (value b)
+
+  stored-first : stored s at n (value b) ≡ sets s at (take m (bytes 8 (b .lo) ++ bytes 8 (b .hi)))
+  unfolding stored
+  stored-first =
+      let k : min (length s - at) (min n 16) ≡ min m 16 = omega arith in
+      sets-cut s at (take n (bytes 16 (value b)))
+      ∙ ap (sets s at)
+      (ap (take (length s - at)) first ∙ take-bytes (length s - at) (min n 16) (value b) ∙ ap (λ (i : ℕ). bytes i (value b)) k
+      ∙ sym (take-bytes m 16 (value b)) ∙ ap (take m) sixteen)
+
+  pub stored-short : m ≤ 8 → stored s at n (value b) ≡ sets s at (bytes m (b .lo))
+  stored-short h =
+      let k : min m 8 ≡ m = omega arith in
+      stored-first
+      ∙ ap (sets s at)
+      (take-append-le m (bytes 8 (b .lo)) (bytes 8 (b .hi)) (omega (arith, length-bytes 8 (b .lo)))
+      ∙ take-bytes m 8 (b .lo) ∙ ap (λ (i : ℕ). bytes i (b .lo)) k)
+
+  pub stored-long : 8 < m → stored s at n (value b) ≡ sets (sets s at (bytes 8 (b .lo))) (at + 8) (bytes (m - 8) (b .hi))
+  stored-long h =
+      let l : length (bytes 8 (b .lo)) ≡ 8 = length-bytes 8 (b .lo) in
+      let k : m ≡ length (bytes 8 (b .lo)) + (m - 8) = omega arith in
+      let i : min (m - 8) 8 ≡ m - 8 = omega arith in
+      stored-first
+      ∙ ap (sets s at)
+      (ap (λ (i : ℕ). take i (bytes 8 (b .lo) ++ bytes 8 (b .hi))) k ∙ take-append-add (bytes 8 (b .lo)) (bytes 8 (b .hi)) (m - 8)
+      ∙ ap (λ (r : List ℕ). bytes 8 (b .lo) ++ r) (take-bytes (m - 8) 8 (b .hi) ∙ ap (λ (i : ℕ). bytes i (b .hi)) i))
+      ∙ sym (sets-append s at (bytes 8 (b .lo)) (bytes (m - 8) (b .hi)))
+      ∙ ap (λ (i : ℕ). sets (sets s at (bytes 8 (b .lo))) (at + i) (bytes (m - 8) (b .hi))) l

@@ -1,0 +1,9 @@
+-- The general laws: each is stated once, here, and cited by the crates above.
+pub mod ExclusiveOr
+pub mod Sums
+pub mod Tests
+pub mod Lists
+pub mod Bytes
+pub mod Words
+pub mod Blocks
+pub mod Refusals

@@ -1,0 +1,31 @@
+-- A fact about every number below a bound, from one test that antt computes.
+-- Assumes nothing.
+use mathlib.Core.Path.{_≡_, subst⁻¹}
+use mathlib.Core.Logic.{⊎-elim}
+use mathlib.Core.Bool.{Bool, true, false}
+use Prim.Native.Nat.{ℕ, zero, suc, _<_}
+use native.Mathlib.Nat.{not-suc-le-zero, le-of-suc-le-suc, eq-or-lt-of-le}
+use lib.Dec.{T}
+
+abbrev pub both : Bool → Bool → Bool
+both true b = b
+both false b = false
+
+pub both-left : (a b : Bool) → T (both a b) → T a
+both-left true b t = tt
+both-left false b t = t
+
+pub both-right : (a b : Bool) → T (both a b) → T b
+both-right true b t = t
+both-right false b t = absurd t
+
+abbrev pub allBelow : (ℕ → Bool) → ℕ → Bool
+allBelow f zero = true
+allBelow f (suc n) = both (f n) (allBelow f n)
+
+pub below : (f : ℕ → Bool) (n : ℕ) → T (allBelow f n) → (k : ℕ) → k < n → T (f k)
+below f zero t k l = absurd (not-suc-le-zero l)
+below f (suc n) t k l =
+    ⊎-elim (λ e. subst⁻¹ (λ (x : ℕ). T (f x)) e (both-left (f n) (allBelow f n) t))
+    (λ m. below f n (both-right (f n) (allBelow f n) t) k m)
+    (eq-or-lt-of-le (le-of-suc-le-suc l))

@@ -1,0 +1,5 @@
+-- The definitions that all contracts share.
+pub mod Digits
+pub mod Bytes
+pub mod Block
+pub mod Refuse

@@ -1,0 +1,128 @@
+// Numbers of 128 bits, and how they are read from bytes and written to them. Nothing is refused and nothing
+// faults: what lies past the end of a slice reads as 0 and is not written.
+ghost use mathlib.Core.Path.{_≡_};
+ghost use mathlib.Core.List.{[]};
+ghost use Prim.Native.Nat.{ℕ, _+_, _-_, _≤_, _<_, min};
+ghost use lib.Bits.{bitXor};
+ghost use lib.ListN.{length};
+ghost use lib.Seq.{sets};
+ghost use Rattle.words.specs.Bytes.{number, bytes, filled};
+ghost use Rattle.words.specs.Block.{value, halves, part, loaded, loadedPad, stored};
+
+// A number of 128 bits.
+pub struct Block {
+    pub lo: u64,
+    pub hi: u64,
+}
+
+pub fn xor(a: Block, b: Block) -> Block
+    ensures { λ r. ⌜ r ≡ halves (bitXor (value a) (value b)) ⌝ }
+{
+    Block {
+        lo: a.lo ^ b.lo,
+        hi: a.hi ^ b.hi,
+    }
+}
+
+// The block of n bytes of s, at most 16, from at on.
+pub fn load(s: &[u8], at: usize, n: usize) -> Block
+    ensures { λ r. ⌜ r ≡ halves (loaded (now (s .entry)) at n) ⌝ }
+{
+    gathered(s, at, n, 0)
+}
+
+// The same with Pad.
+pub fn load_pad(s: &[u8], at: usize, n: usize) -> Block
+    ensures { λ r. ⌜ r ≡ halves (loadedPad (now (s .entry)) at n) ⌝ }
+{
+    gathered(s, at, n, 1)
+}
+
+// Writes the first n bytes of b, at most 16, to s from at on.
+pub fn store(s: &mut [u8], at: usize, n: usize, b: Block)
+    ensures { λ _. ⌜ now (s .exit) ≡ stored (now (s .entry)) at n (value b) ⌝ }
+{
+    let m = there(s.len(), at, n);
+    if m <= 8 {
+        put(s, at, m, b.lo);
+        return;
+    }
+    put(s, at, 8, b.lo);
+    put(s, at + 8, m - 8, b.hi);
+}
+
+// How many of n bytes from at on lie in a slice of len bytes, at most 16.
+fn there(len: usize, at: usize, n: usize) -> usize
+    ensures { λ r. ⌜ r ≡ min n (min 16 (len - at)) ⌝ }
+{
+    if len <= at {
+        return 0;
+    }
+    let left = len - at;
+    if left < 16 {
+        return least(n, left);
+    }
+    least(n, 16)
+}
+
+fn least(a: usize, b: usize) -> usize
+    ensures { λ r. ⌜ r ≡ min a b ⌝ }
+{
+    if a < b { a } else { b }
+}
+
+// The block of sixteen bytes: n of s from at on, and where those are fewer, top and zeros.
+fn gathered(s: &[u8], at: usize, n: usize, top: u8) -> Block
+    ensures { λ r. ⌜ r ≡ halves (number (filled top 16 (part (now (s .entry)) at n))) ⌝ }
+{
+    let m = there(s.len(), at, n);
+    if m < 8 {
+        let lo = word(s, at, m, top);
+        return Block { lo: lo, hi: 0 };
+    }
+    let lo = word(s, at, 8, top);
+    let hi = word(s, at + 8, m - 8, top);
+    Block { lo: lo, hi: hi }
+}
+
+// The number of eight bytes: n of s from at on, and where those are fewer, top and zeros.
+fn word(s: &[u8], at: usize, n: usize, top: u8) -> u64
+    requires { ⌜ (n ≤ length (now s) - at) × (n ≤ 8) ⌝ }
+    ensures { λ r. ⌜ r ≡ number (filled top 8 (part (now (s .entry)) at n)) ⌝ }
+{
+    let mut acc = above(n, top);
+    let mut i = n;
+    while i > 0 {
+        i -= 1;
+        acc = acc * 256 + wide(s[at + i]);
+    }
+    acc
+}
+
+// What stands above n of eight bytes.
+fn above(n: usize, top: u8) -> u64
+    requires { ⌜ n ≤ 8 ⌝ }
+    ensures { λ r. ⌜ r ≡ number (filled top (8 - n) []) ⌝ }
+{
+    if n < 8 { wide(top) } else { 0 }
+}
+
+fn wide(x: u8) -> u64
+    ensures { λ r. ⌜ r ≡ x ⌝ }
+{
+    x as u64
+}
+
+// Writes the n low bytes of w to s from at on.
+fn put(s: &mut [u8], at: usize, n: usize, w: u64)
+    requires { ⌜ n ≤ length (now s) - at ⌝ }
+    ensures { λ _. ⌜ now (s .exit) ≡ sets (now (s .entry)) at (bytes n w) ⌝ }
+{
+    let mut rest = w;
+    let mut i = 0;
+    while i < n {
+        s[at + i] = (rest % 256) as u8;
+        rest = rest / 256;
+        i += 1;
+    }
+}
