@@ -1,20 +1,22 @@
 -- A block and its number, each undoing the other; exclusive or of blocks; a block of sixteen bytes.
 -- Assumes nothing.
 use mathlib.Core.Path.{_≡_, refl, sym, ap, ap₂, _∙_, subst}
-use mathlib.Core.List.{List, _++_}
+use mathlib.Core.List.{List, _++_, append-nil}
 use Prim.Native.Nat.{ℕ, _+_, _-_, _*_, _^_, _≤_, _<_, min}
-use native.Mathlib.Nat.{div-eq-of-lt}
+use native.Mathlib.Nat.{zero-add}
 use native.Mathlib.Omega.{arith}
 use lib.Arith.{digits-lt}
 use lib.Bits.{bitXor, xor-block}
 use lib.ListN.{length, getD, take, drop, length-take, length-drop, replicate, drop-of-length-le}
 use lib.Pow.{split, high, low}
-use lib.Seq.{drop-drop, sets, take-append-le, take-append-add}
+use lib.Seq.{drop-drop, sets, sets-eq, take-all, take-append-le, take-append-add}
 use Rattle.words.specs.declared.Block.{Block}
-use Rattle.words.specs.Block.{value, halves, part, stored}
+use Rattle.words.specs.Block.{value, halves, part, loaded, stored}
 use Rattle.words.specs.Bytes.{Bytes, number, bytes, filled}
+use Rattle.words.specs.Digits.{xsum}
+use Rattle.words.proofs.Sums.{xsum-next}
 use Rattle.words.proofs.Lists.{drop-take, sets-append, sets-cut}
-use Rattle.words.proofs.Bytes.{bytes-take, bytes-drop, bytes-filled, number-lt, number-split, number-zeros, length-bytes, take-bytes, bytes-append, length-filled, filled-same, take-filled, drop-filled, drop-filled-past}
+use Rattle.words.proofs.Bytes.{bytes-take, bytes-drop, bytes-filled, number-lt, number-split, number-zeros, length-bytes, take-bytes, bytes-append, length-filled, filled-same, filled-full, take-filled, drop-filled, drop-filled-past}
 
 pub value-halves : (x : ℕ) → value (halves x) ≡ x
 unfolding value halves
@@ -33,6 +35,9 @@ pub halves-value : (b : Block) → b .lo < 2 ^ 64 → halves (value b) ≡ b
 unfolding value
 halves-value b h = halves-pair (b .hi) (b .lo) h
 
+pub value-is : {b : Block} {x : ℕ} → b ≡ halves x → value b ≡ x
+value-is {b} {x} e = ap value e ∙ value-halves x
+
 -- a block that is known by its number is known whole
 pub whole : (b : Block) {x : ℕ} → b .lo < 2 ^ 64 → value b ≡ x → b ≡ halves x
 whole b h e = sym (halves-value b h) ∙ ap halves e
@@ -41,6 +46,11 @@ pub xor-halves : (a b : Block) → a .lo < 2 ^ 64 → b .lo < 2 ^ 64
     → value (record { lo = bitXor (a .lo) (b .lo); hi = bitXor (a .hi) (b .hi) }) ≡ bitXor (value a) (value b)
 unfolding value
 xor-halves a b ha hb = sym (xor-block 64 (a .hi) (b .hi) (a .lo) (b .lo) ha hb)
+
+-- one turn of a loop that sums by exclusive or into a block
+pub sum-turn : (f : ℕ → ℕ) (i : ℕ) {acc next : Block} {v : ℕ} → acc ≡ halves (xsum f i) → next ≡ halves (bitXor (value acc) v) → v ≡ f i
+    → next ≡ halves (xsum f (i + 1))
+sum-turn f i ea en ev = en ∙ ap halves (ap₂ bitXor (value-is ea) ev ∙ sym (xsum-next f i))
 
 -- ---- the block of sixteen bytes
 
@@ -77,6 +87,11 @@ module _ (s : List ℕ) (h : Bytes s) (t : ℕ) (small : t < 256) (at n m : ℕ)
         drop-take 8 m (drop at s),
         drop-drop,
       )
+
+-- all of them
+pub loaded-all : (s : List ℕ) → length s ≡ 16 → loaded s 0 16 ≡ number s
+unfolding loaded
+loaded-all s e = ap number (ap (filled 0 16) (take-all 16 s (omega arith)) ∙ filled-full 0 16 s e)
 
 -- ---- the first bytes of a block, stored
 
@@ -116,3 +131,12 @@ module _ (s : List ℕ) (b : Block) (small : b .lo < 2 ^ 64) (at n m : ℕ) (e :
       ∙ ap (λ (r : List ℕ). bytes 8 (b .lo) ++ r) (take-bytes (m - 8) 8 (b .hi) ∙ ap (λ (i : ℕ). bytes i (b .hi)) i))
       ∙ sym (sets-append s at (bytes 8 (b .lo)) (bytes (m - 8) (b .hi)))
       ∙ ap (λ (i : ℕ). sets (sets s at (bytes 8 (b .lo))) (at + i) (bytes (m - 8) (b .hi))) l
+
+-- all of them
+pub stored-all : (s : List ℕ) (x : ℕ) → length s ≡ 16 → stored s 0 16 x ≡ bytes 16 x
+unfolding stored
+stored-all s x e =
+    let l = length-bytes 16 x in
+    ap (sets s 0) (take-all 16 (bytes 16 x) (omega arith))
+    ∙ sets-eq (bytes 16 x) s 0 (omega arith)
+    ∙ rw (zero-add, l, drop-of-length-le s {i = 16} (omega arith)) (append-nil (bytes 16 x))

@@ -3,7 +3,7 @@
 use mathlib.Core.Path.{_≡_, refl, sym, ap, ap₂, _∙_}
 use mathlib.Core.List.{List, [], _∷_, _++_}
 use Prim.Native.Nat.{ℕ, zero, suc, _+_, _*_, _/_, _%_, _^_, _≤_, _<_, _-_, min}
-use native.Mathlib.Nat.{mod-lt, pow-suc, mul-assoc, zero-mul, zero-lt-suc, div-add-mod', div-lt-iff-lt-mul, not-suc-le-zero, le-of-suc-le-suc, zero-add, suc-add, sub-zero, zero-sub, suc-sub-suc}
+use native.Mathlib.Nat.{mod-lt, suc-inj, pow-suc, mul-assoc, zero-mul, zero-lt-suc, div-add-mod', div-lt-iff-lt-mul, not-suc-le-zero, le-of-suc-le-suc, zero-add, suc-add, sub-zero, zero-sub, suc-sub-suc}
 use native.Mathlib.Omega.{arith}
 use lib.Arith.{digits-lt, digits-div, digits-mod, lt-one}
 use lib.Dec.{lit<}
@@ -141,6 +141,14 @@ module _ (t : ℕ) where
   filled-at (suc n) [] j h k = absurd (not-suc-le-zero k)
   filled-at (suc n) (b ∷ s) zero h k = refl
   filled-at (suc n) (b ∷ s) (suc j) h k = filled-at n s j (le-of-suc-le-suc h) (le-of-suc-le-suc k)
+
+  -- a full one is left
+  pub filled-full : (n : ℕ) (s : List ℕ) → length s ≡ n → filled t n s ≡ s
+  unfolding filled
+  filled-full zero [] e = refl
+  filled-full zero (b ∷ s) e = absurd (omega arith)
+  filled-full (suc n) [] e = absurd (omega arith)
+  filled-full (suc n) (b ∷ s) e = ap (λ (r : List ℕ). b ∷ r) (filled-full n s (suc-inj e))
 
   filled-least : (n k : ℕ) (s : List ℕ) → filled t n (take k s) ≡ filled t n (take (min k (min n (length s))) s)
   unfolding filled

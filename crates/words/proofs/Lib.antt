@@ -7,3 +7,4 @@ pub mod Bytes
 pub mod Words
 pub mod Blocks
 pub mod Refusals
+pub mod Single

@@ -1,13 +1,16 @@
--- Parts of lists, and runs of stores.
+-- Parts of lists, lists by a rule, and runs of stores.
 -- Assumes nothing.
-use mathlib.Core.Path.{_≡_, refl, ap, _∙_}
+use mathlib.Core.Path.{_≡_, refl, sym, ap, subst, _∙_}
+use mathlib.Core.Logic.{⊎-elim}
 use mathlib.Core.List.{List, [], _∷_, _++_}
-use Prim.Native.Nat.{ℕ, zero, suc, _+_, _-_, _≤_}
+use Prim.Native.Nat.{ℕ, zero, suc, _+_, _-_, _≤_, _<_}
 use native.Mathlib.Decide.{decLe}
-use native.Mathlib.Nat.{add-zero, add-suc, suc-add, sub-zero, zero-sub, suc-sub-suc, not-suc-le-zero, le-of-suc-le-suc}
+use native.Mathlib.Nat.{ne-of-lt, eq-or-lt-of-le, zero-add, add-zero, add-suc, suc-add, sub-zero, zero-sub, suc-sub-suc, not-suc-le-zero, le-of-suc-le-suc}
+use native.Mathlib.Numerals.{add-one}
 use native.Mathlib.Omega.{arith}
-use lib.ListN.{length, take, drop, set, replicate, length-set}
-use lib.Seq.{sets, set-out, take-nil}
+use lib.ListN.{length, getD, take, drop, set, replicate, length-set}
+use lib.Seq.{sets, set-out, take-nil, ext-getD, getD-set-same, getD-set-other}
+use Rattle.words.specs.Digits.{tab}
 
 module _ {A : Type 0} where
   pub take-replicate : (k n : ℕ) (a : A) → k ≤ n → take k (replicate n a) ≡ replicate k a
@@ -25,6 +28,38 @@ module _ {A : Type 0} where
   drop-take (suc k) zero l = rw zero-sub
   drop-take (suc k) (suc n) [] = rw take-nil
   drop-take (suc k) (suc n) (a ∷ l) = rw suc-sub-suc (drop-take k n l)
+
+  -- ---- lists by a rule
+
+  module _ (f : ℕ → A) (d : A) where
+    tab-from : (i n k : ℕ) → k < n → getD (tab f i n) k d ≡ f (i + k)
+    unfolding tab
+    tab-from i zero k h = absurd (not-suc-le-zero h)
+    tab-from i (suc n) zero h = ap f (sym (add-zero i))
+    tab-from i (suc n) (suc k) h = tab-from (suc i) n k (le-of-suc-le-suc h) ∙ ap f (suc-add i k ∙ sym (add-suc i k))
+
+    pub tab-at : (n k : ℕ) → k < n → getD (tab f 0 n) k d ≡ f k
+    tab-at n k h = tab-from 0 n k h ∙ ap f (zero-add k)
+
+    length-tab : (i n : ℕ) → length (tab f i n) ≡ n
+    unfolding tab
+    length-tab i zero = refl
+    length-tab i (suc n) = ap suc (length-tab (suc i) n)
+
+    -- one turn of a loop that fills a list from the front
+    pub fill-turn : (l : List A) (r : ℕ) (a : A) → r < length l → ((j : ℕ) → j < r → getD l j d ≡ f j) → a ≡ f r
+        → (j : ℕ) → j < r + 1 → getD (set l r a) j d ≡ f j
+    fill-turn l r a h below e j m =
+        ⊎-elim
+        (λ q. ap (λ (x : ℕ). getD (set l r a) x d) q ∙ getD-set-same l r a d h ∙ e ∙ ap f (sym q))
+        (λ q. getD-set-other l r j a d (ne-of-lt q) ∙ below j q)
+        (eq-or-lt-of-le (le-of-suc-le-suc (subst (λ (x : ℕ). j < x) (add-one r) m)))
+
+    -- and its end
+    pub fill-end : (l : List A) (n : ℕ) → length l ≡ n → ((j : ℕ) → j < n → getD l j d ≡ f j) → l ≡ tab f 0 n
+    fill-end l n e h =
+        ext-getD d l (tab f 0 n) (e ∙ sym (length-tab 0 n))
+        (λ j k. let m : j < n = omega arith in h j m ∙ sym (tab-at n j m))
 
   -- ---- runs of stores
 

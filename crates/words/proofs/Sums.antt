@@ -15,14 +15,9 @@ use Rattle.words.specs.Digits.{digit, xsum}
 
 -- ---- sums
 
--- one turn of a loop that sums
-pub xsum-turn : (f : ℕ → ℕ) (i : ℕ) {acc next v : ℕ} → acc ≡ xsum f i → next ≡ bitXor acc v → v ≡ f i → next ≡ xsum f (i + 1)
+pub xsum-next : (f : ℕ → ℕ) (i : ℕ) → xsum f (i + 1) ≡ bitXor (xsum f i) (f i)
 unfolding xsum
-xsum-turn f i ea en ev = en ∙ ap₂ bitXor ea ev ∙ ap (xsum f) (sym (add-one i))
-
-pub xsum-none : (f : ℕ → ℕ) → xsum f 0 ≡ 0
-unfolding xsum
-xsum-none f = refl
+xsum-next f i = ap (xsum f) (add-one i)
 
 xsum-zeros : (f : ℕ → ℕ) (n : ℕ) → ((i : ℕ) → i < n → f i ≡ zero) → xsum f n ≡ zero
 unfolding xsum

@@ -1,0 +1,104 @@
+-- The entry points: what their steps leave, that one result is allowed, and that they undo each other on every input.
+-- Assumes nothing.
+use mathlib.Core.Path.{_≡_, refl, sym, ap, _∙_, subst⁻¹}
+use mathlib.Core.Bool.{Bool, true, false, not}
+use mathlib.Core.List.{List, [], _∷_}
+use Prim.Native.Nat.{ℕ, _^_, _<_}
+use native.Nat.{ℕᴺ-discrete}
+use borrow.Author.Tests.{eq-eqb, ne-eqb}
+use lib.ListN.{length, getD}
+use Rattle.words.specs.declared.Block.{Block}
+use Rattle.words.specs.Block.{value, halves, loaded, stored}
+use Rattle.words.specs.Bytes.{Bytes, number, bytes}
+use Rattle.words.specs.Digits.{tab}
+use Rattle.words.specs.Refuse.{Answer, answered}
+use Rattle.words.proofs.Blocks.{value-halves, value-is, loaded-all, stored-all}
+use Rattle.words.proofs.Bytes.{length-bytes, number-bytes, bytes-number, number-lt}
+use Rattle.words.proofs.Lists.{tab-at}
+use Rattle.words.proofs.Refusals.{same, same-answer}
+use Rattle.gift.specs.declared.Additions.{Additions}
+use Rattle.gift.specs.Gift.{added, forty, encipher, decipher}
+use Rattle.gift.specs.Entry.{additions, addition, enciphers, deciphers, crypting, enciphering, deciphering}
+use Rattle.gift.proofs.Inverse.{added-lt, forty-same, forty-lt, forty-undone}
+
+-- ---- the additions, worked out, are those of the rounds
+
+addition-is : (k r : ℕ) → r < 40 → addition (additions k) r ≡ added k r
+unfolding additions addition
+addition-is k r h = ap value (tab-at (λ i. halves (added k i)) (halves 0) 40 r h) ∙ value-halves (added k r)
+
+forty-is : (back : Bool) (k x : ℕ) → forty back (addition (additions k)) x ≡ forty back (added k) x
+forty-is back k x = forty-same back (addition (additions k)) (added k) x (addition-is k)
+
+pub enciphers-is : (k x : ℕ) → enciphers (additions k) x ≡ encipher k x
+unfolding enciphers encipher
+enciphers-is k x = forty-is false k x
+
+pub deciphers-is : (k x : ℕ) → deciphers (additions k) x ≡ decipher k x
+unfolding deciphers decipher
+deciphers-is k x = forty-is true k x
+
+-- ---- what a call leaves
+
+module _ (back : Bool) (key block : List ℕ) where
+  pub refused-key : (length key ≡ 16 → ⊥) → answered 1 block ≡ crypting back key block
+  unfolding crypting
+  refused-key h = simp (ne-eqb _ _ h)
+
+  pub refused-block : length key ≡ 16 → (length block ≡ 16 → ⊥) → answered 4 block ≡ crypting back key block
+  unfolding crypting
+  refused-block hk h = simp (eq-eqb _ _ hk, ne-eqb _ _ h)
+
+  done : length key ≡ 16 → length block ≡ 16 → answered 0 (bytes 16 (forty back (added (number key)) (number block))) ≡ crypting back key block
+  unfolding crypting
+  done hk hb = simp (eq-eqb _ _ hk, eq-eqb _ _ hb)
+
+  pub crypted : {k x y : Block} {a : Additions} {end : List ℕ} → length key ≡ 16 → length block ≡ 16
+      → k ≡ halves (loaded key 0 16) → a ≡ additions (value k) → x ≡ halves (loaded block 0 16)
+      → y ≡ halves (forty back (addition a) (value x)) → end ≡ stored block 0 16 (value y) → answered 0 end ≡ crypting back key block
+  crypted {k} {x} {y} {a} {end} hk hb ek ea ex ey ee =
+      let vk : value k ≡ number key = value-is ek ∙ loaded-all key hk in
+      let vx : value x ≡ number block = value-is ex ∙ loaded-all block hb in
+      ap (answered 0)
+      (ee ∙ stored-all block (value y) hb
+      ∙ ap (bytes 16)
+      (value-is ey ∙ ap (λ b. forty back (addition b) (value x)) ea ∙ forty-is back (value k) (value x)
+      ∙ ap (λ (i : ℕ). forty back (added i) (value x)) vk ∙ ap (forty back (added (number key))) vx))
+      ∙ done hk hb
+
+-- ---- each undoes the other, on every input: what is refused is left as it was
+
+module _ (back : Bool) (key block : List ℕ) (are : Bytes block) where
+  undone-done : length key ≡ 16 → length block ≡ 16 → crypting (not back) key (crypting back key block .left) .left ≡ block
+  undone-done hk hb =
+      let k = number key in
+      let x = number block in
+      let y = forty back (added k) x in
+      let hx : x < 2 ^ 128 = subst⁻¹ (λ (n : ℕ). x < n) refl (subst⁻¹ (λ (n : ℕ). x < 256 ^ n) (sym hb) (number-lt block are)) in
+      ap (λ r. crypting (not back) key (r .left) .left) (sym (done back key block hk hb))
+      ∙ ap (λ r. r .left) (sym (done (not back) key (bytes 16 y) hk (length-bytes 16 y)))
+      ∙ ap (λ (z : ℕ). bytes 16 (forty (not back) (added k) z)) (number-bytes 16 y (forty-lt back (added k) x (added-lt k) hx))
+      ∙ ap (bytes 16) (forty-undone back (added k) x (added-lt k) hx)
+      ∙ ap (λ (n : ℕ). bytes n x) (sym hb)
+      ∙ bytes-number block are
+
+  undone-kept : {n : ℕ} → answered n block ≡ crypting back key block → answered n block ≡ crypting (not back) key block
+      → crypting (not back) key (crypting back key block .left) .left ≡ block
+  undone-kept p q = ap (λ r. crypting (not back) key (r .left) .left) (sym p) ∙ ap (λ r. r .left) (sym q)
+
+  pub undone : crypting (not back) key (crypting back key block .left) .left ≡ block
+  undone =
+      elim (ℕᴺ-discrete (length key) 16) [
+        | yes hk ↦
+            elim (ℕᴺ-discrete (length block) 16) [
+              | yes hb ↦ undone-done hk hb
+              | no hb ↦ undone-kept (refused-block back key block hk hb) (refused-block (not back) key block hk hb)
+            ]
+        | no hk ↦ undone-kept (refused-key back key block hk) (refused-key (not back) key block hk)
+      ]
+
+pub deciphering-enciphering : (key block : List ℕ) → Bytes block → deciphering key (enciphering key block .left) .left ≡ block
+deciphering-enciphering = undone false
+
+pub enciphering-deciphering : (key block : List ℕ) → Bytes block → enciphering key (deciphering key block .left) .left ≡ block
+enciphering-deciphering = undone true

@@ -1,0 +1,64 @@
+-- Fields of a block: what stands at a place of its number, read and added in its halves.
+-- Assumes nothing.
+use mathlib.Core.Path.{_≡_, refl, sym, ap, _∙_, subst}
+use Prim.Native.Nat.{ℕ, zero, _+_, _-_, _*_, _/_, _%_, _^_, _≤_, _<_}
+use native.Mathlib.Nat.{lt-of-lt-of-le, mod-eq-of-lt, mul-add-div-right, mul-add-mod-self-right, mul-assoc, zero-add, add-zero}
+use native.Mathlib.Omega.{arith}
+use lib.Bits.{bitXor, xor-block, xor-zero-r, xor-lt}
+use lib.Pow.{pow-mono, pow-pos, pow-add, shl-lt, shr-shr, high}
+use Rattle.words.specs.declared.Block.{Block}
+use Rattle.words.specs.Block.{value, halves}
+use Rattle.words.proofs.Blocks.{whole}
+
+-- ---- read: w bits at s
+
+pub field-low : (b : Block) (s w : ℕ) → s + w ≤ 64 → b .lo / 2 ^ s % 2 ^ w ≡ value b / 2 ^ s % 2 ^ w
+unfolding value
+field-low b s w h = sym (low (b .hi) (b .lo))
+  where
+    low : (hi lo : ℕ) → (hi * 2 ^ 64 + lo) / 2 ^ s % 2 ^ w ≡ lo / 2 ^ s % 2 ^ w
+    low hi lo =
+        let d : ℕ = 64 - (s + w) in
+        let e : 64 ≡ d + w + s = omega arith in
+        ap (λ (x : ℕ). (hi * 2 ^ x + lo) / 2 ^ s % 2 ^ w) e
+        ∙ ap (λ (x : ℕ). (x + lo) / 2 ^ s % 2 ^ w) (ap (λ (x : ℕ). hi * x) (pow-add 2 (d + w) s) ∙ sym (mul-assoc hi (2 ^ (d + w)) (2 ^ s)))
+        ∙ ap (λ (x : ℕ). x % 2 ^ w) (mul-add-div-right (pow-pos s) (hi * 2 ^ (d + w)) lo)
+        ∙ ap (λ (x : ℕ). (x + lo / 2 ^ s) % 2 ^ w) (ap (λ (x : ℕ). hi * x) (pow-add 2 d w) ∙ sym (mul-assoc hi (2 ^ d) (2 ^ w)))
+        ∙ mul-add-mod-self-right (hi * 2 ^ d) (2 ^ w) (lo / 2 ^ s)
+
+-- all from s on
+pub from-high : (b : Block) (s t : ℕ) → b .lo < 2 ^ 64 → s ≡ 64 + t → b .hi / 2 ^ t ≡ value b / 2 ^ s
+unfolding value
+from-high b s t h e =
+    sym (ap (λ (x : ℕ). (b .hi * 2 ^ 64 + b .lo) / 2 ^ x) e ∙ sym (shr-shr (b .hi * 2 ^ 64 + b .lo) 64 t) ∙ ap (λ (x : ℕ). x / 2 ^ t) (high (b .hi) 64 h))
+
+pub field-high : (b : Block) (s t w : ℕ) → b .lo < 2 ^ 64 → s ≡ 64 + t → b .hi / 2 ^ t % 2 ^ w ≡ value b / 2 ^ s % 2 ^ w
+field-high b s t w h e = ap (λ (x : ℕ). x % 2 ^ w) (from-high b s t h e)
+
+-- ---- added: v at s
+
+-- v of w bits does not reach over the middle where its place leaves it room
+pub put-fits : (v w s : ℕ) → v < 2 ^ w → w + s % 64 ≤ 64 → v * 2 ^ (s % 64) < 2 ^ 64
+put-fits v w s h l = lt-of-lt-of-le (shl-lt w (s % 64) h) (pow-mono l)
+
+module _ (b : Block) (s v : ℕ) (small : b .lo < 2 ^ 64) (fits : v * 2 ^ (s % 64) < 2 ^ 64) where
+  pub put-low : s < 64 → record { lo = bitXor (b .lo) (v * 2 ^ s % 2 ^ 64); hi = b .hi } ≡ halves (bitXor (value b) (v * 2 ^ s))
+  unfolding value
+  put-low h =
+      let t : v * 2 ^ s < 2 ^ 64 = subst (λ (x : ℕ). v * 2 ^ x < 2 ^ 64) (mod-eq-of-lt h) fits in
+      ap (λ (x : ℕ). record { lo = bitXor (b .lo) x; hi = b .hi }) (mod-eq-of-lt t)
+      ∙ whole (record { lo = bitXor (b .lo) (v * 2 ^ s); hi = b .hi }) (xor-lt 64 (b .lo) (v * 2 ^ s) small t)
+      (sym (ap (bitXor (b .hi * 2 ^ 64 + b .lo)) (sym (zero-add (v * 2 ^ s))) ∙ xor-block 64 (b .hi) zero (b .lo) (v * 2 ^ s) small t
+      ∙ ap (λ (x : ℕ). x * 2 ^ 64 + bitXor (b .lo) (v * 2 ^ s)) (xor-zero-r (b .hi))))
+
+  pub put-high : 64 ≤ s → s < 128 → record { lo = b .lo; hi = bitXor (b .hi) (v * 2 ^ (s - 64) % 2 ^ 64) } ≡ halves (bitXor (value b) (v * 2 ^ s))
+  unfolding value
+  put-high h k =
+      let m : s % 64 ≡ s - 64 = omega arith in
+      let e : (s - 64) + 64 ≡ s = omega arith in
+      let t = v * 2 ^ (s - 64) in
+      let p : t * 2 ^ 64 ≡ v * 2 ^ s = mul-assoc v (2 ^ (s - 64)) (2 ^ 64) ∙ ap (λ (x : ℕ). v * x) (sym (pow-add 2 (s - 64) 64) ∙ ap (λ (x : ℕ). 2 ^ x) e) in
+      ap (λ (x : ℕ). record { lo = b .lo; hi = bitXor (b .hi) x }) (mod-eq-of-lt (subst (λ (x : ℕ). v * 2 ^ x < 2 ^ 64) m fits))
+      ∙ whole (record { lo = b .lo; hi = bitXor (b .hi) t }) small
+      (sym (ap (bitXor (b .hi * 2 ^ 64 + b .lo)) (sym p ∙ sym (add-zero (t * 2 ^ 64))) ∙ xor-block 64 (b .hi) t (b .lo) zero small (pow-pos 64)
+      ∙ ap (λ (x : ℕ). bitXor (b .hi) t * 2 ^ 64 + x) (xor-zero-r (b .lo))))

@@ -1,0 +1,99 @@
+-- The key state in its halves, and what is worked out from it.
+-- Assumes nothing.
+use mathlib.Core.Path.{_≡_, refl, sym, ap, ap₂, subst⁻¹, _∙_}
+use Prim.Native.Nat.{ℕ, zero, suc, _+_, _-_, _*_, _/_, _%_, _^_, _≤_, _<_}
+use native.Mathlib.Nat.{div-one, mul-mod-left, add-zero, mod-lt}
+use native.Mathlib.Numerals.{add-one}
+use native.Mathlib.Omega.{arith}
+use lib.Arith.{mod-mul, digits-lt}
+use lib.Bits.{bitXor}
+use lib.Dec.{lit≤}
+use lib.Pow.{mod-pow-add, mod-mod-pow, shl-shr, shr-lt, pow-pos, pow-add}
+use Rattle.words.specs.declared.Block.{Block}
+use Rattle.words.specs.Block.{value, halves}
+use Rattle.words.specs.Digits.{rotr}
+use Rattle.words.proofs.Blocks.{whole, value-is}
+use Rattle.gift.specs.Gift.{word, keyU, keyV, keyBits, stepConst, roundConst, constBits, keyStep, keyAt, added}
+use Rattle.gift.proofs.Fields.{field-low, from-high}
+
+-- ---- U and V
+
+pub keyU-is : (k : Block) → k .lo < 2 ^ 64 → k .hi % 2 ^ 32 ≡ keyU (value k)
+keyU-is k h =
+    mod-pow-add (k .hi) 16 16
+    ∙ ap₂ (λ (x y : ℕ). x % 2 ^ 16 * 2 ^ 16 + y % 2 ^ 16) (from-high k 80 16 h refl) (sym (div-one (k .hi)) ∙ from-high k 64 0 h refl)
+
+pub keyV-is : (k : Block) → k .lo % 2 ^ 32 ≡ keyV (value k)
+keyV-is k =
+    mod-pow-add (k .lo) 16 16
+    ∙ ap₂ (λ (x y : ℕ). x * 2 ^ 16 + y) (field-low k 16 16 (lit≤ tt)) (ap (λ (x : ℕ). x % 2 ^ 16) (sym (div-one (k .lo))) ∙ field-low k 0 16 (lit≤ tt))
+
+-- ---- a rotated word
+
+module _ (w n : ℕ) (h : n ≤ 16) where
+  whole-width : 2 ^ 16 ≡ 2 ^ n * 2 ^ (16 - n)
+  whole-width = let e : n + (16 - n) ≡ 16 = omega arith in ap (λ (i : ℕ). 2 ^ i) (sym e) ∙ pow-add 2 n (16 - n)
+
+  rotr-is : w * 2 ^ (16 - n) % 2 ^ 64 % 2 ^ 16 + w / 2 ^ n ≡ rotr 16 n w
+  unfolding rotr
+  rotr-is =
+      let c = 2 ^ (16 - n) in
+      ap (λ (x : ℕ). x + w / 2 ^ n)
+      (mod-mod-pow (w * c) 48 16 ∙ ap (λ (x : ℕ). w * c % x) whole-width ∙ mod-mul (w * c) (pow-pos n) (pow-pos (16 - n))
+      ∙ ap₂ (λ (x y : ℕ). x % 2 ^ n * c + y) (shl-shr w (16 - n)) (mul-mod-left w c) ∙ add-zero (w % 2 ^ n * c))
+
+  rotr-lt : w < 2 ^ 16 → rotr 16 n w < 2 ^ 16
+  unfolding rotr
+  rotr-lt hw =
+      let e : 16 - n + n ≡ 16 = omega arith in
+      subst⁻¹ (λ (x : ℕ). rotr 16 n w < x) whole-width
+      (digits-lt (mod-lt w (pow-pos n)) (shr-lt (16 - n) n (subst⁻¹ (λ (i : ℕ). w < 2 ^ i) e hw)))
+
+  pub rotated : w < 2 ^ 16 → (w * 2 ^ (16 - n) % 2 ^ 64 % 2 ^ 16 + w / 2 ^ n ≡ rotr 16 n w) × (w * 2 ^ (16 - n) % 2 ^ 64 % 2 ^ 16 + w / 2 ^ n < 2 ^ 16)
+  rotated hw = (rotr-is, subst⁻¹ (λ (x : ℕ). x < 2 ^ 16) rotr-is (rotr-lt hw))
+
+-- ---- the step
+
+pub keyStep-fits : (x y : ℕ) → x < 2 ^ 64 → x / 4294967296 + y % 4294967296 * 4294967296 < 2 ^ 64
+keyStep-fits x y h = omega arith
+
+pub keyStep-is : (k : Block) (a b : ℕ) → k .lo < 2 ^ 64 → a ≡ rotr 16 2 (k .lo / 65536 % 65536) → b ≡ rotr 16 12 (k .lo % 65536)
+    → record { lo = k .lo / 4294967296 + k .hi % 4294967296 * 4294967296; hi = k .hi / 4294967296 + b * 4294967296 + a * 281474976710656 } ≡ halves (keyStep (value k))
+unfolding value keyStep
+keyStep-is k a b h ea eb =
+    whole _ (keyStep-fits (k .lo) (k .hi) h)
+    (shape (k .hi / 2 ^ 32) (k .hi % 2 ^ 32) (k .lo / 2 ^ 32) a b
+    ∙ ap₂ (λ (x y : ℕ). x * 2 ^ 112 + y * 2 ^ 96 + (k .hi / 2 ^ 32 * 2 ^ 64 + k .hi % 2 ^ 32 * 2 ^ 32 + k .lo / 2 ^ 32))
+    (ea ∙ ap (rotr 16 2) (field-low k 16 16 (lit≤ tt)))
+    (eb ∙ ap (rotr 16 12) (ap (λ (x : ℕ). x % 2 ^ 16) (sym (div-one (k .lo))) ∙ field-low k 0 16 (lit≤ tt)))
+    ∙ ap (λ (x : ℕ). rotr 16 2 (word 1 (value k)) * 2 ^ 112 + rotr 16 12 (word 0 (value k)) * 2 ^ 96 + x) (rejoin k))
+  where
+    shape : (p q l a b : ℕ) → value (record { lo = l + q * 2 ^ 32; hi = p + b * 2 ^ 32 + a * 2 ^ 48 }) ≡ a * 2 ^ 112 + b * 2 ^ 96 + (p * 2 ^ 64 + q * 2 ^ 32 + l)
+    shape p q l a b = omega arith
+
+    rejoin : (k : Block) → k .hi / 2 ^ 32 * 2 ^ 64 + k .hi % 2 ^ 32 * 2 ^ 32 + k .lo / 2 ^ 32 ≡ value k / 2 ^ 32
+    rejoin k = omega arith
+
+-- ---- one turn of the loop over the rounds
+
+pub roundConst-next : (r : ℕ) → roundConst (r + 1) ≡ stepConst (roundConst r)
+unfolding roundConst
+roundConst-next r = ap roundConst (add-one r)
+
+pub keyAt-next : (k r : ℕ) → keyAt k (r + 1) ≡ keyStep (keyAt k r)
+unfolding keyAt
+keyAt-next k r = ap (keyAt k) (add-one r)
+
+-- the state goes on
+pub state-turn : (k r : ℕ) {s t : Block} → s ≡ halves (keyAt k r) → t ≡ halves (keyStep (value s)) → t ≡ halves (keyAt k (r + 1))
+state-turn k r es et = et ∙ ap halves (ap keyStep (value-is es) ∙ sym (keyAt-next k r))
+
+-- what is added
+pub added-turn : (k r : ℕ) {s u v w : Block} {c d : ℕ} → s ≡ halves (keyAt k r) → c ≡ roundConst r → d ≡ stepConst c
+    → u ≡ halves (keyBits (value s)) → v ≡ halves (constBits d) → w ≡ halves (bitXor (value u) (value v)) → w ≡ halves (added k r)
+unfolding added roundConst
+added-turn k r es ec ed eu ev ew =
+    ew
+    ∙ ap halves (ap₂ bitXor
+    (value-is eu ∙ ap keyBits (value-is es))
+    (value-is ev ∙ ap constBits (ed ∙ ap stepConst ec)))

@@ -1,0 +1,8 @@
+-- Laws of GIFT-128.
+pub mod Fields
+pub mod Steps
+pub mod Inverse
+pub mod Keys
+pub mod Cards
+pub mod Entry
+pub mod Single

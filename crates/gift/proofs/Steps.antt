@@ -1,0 +1,126 @@
+-- The S-box and the bit move: each below its bound and undone by the way back, by tests that antt computes.
+-- Assumes nothing.
+use mathlib.Core.Path.{_≡_, refl, sym, ap, _∙_}
+use mathlib.Core.Bool.{Bool, true, false, not}
+use Prim.Native.Nat.{ℕ, zero, _+_, _*_, _/_, _%_, _^_, _<_}
+use native.Mathlib.Nat.{zero-lt-suc, mod-lt}
+use lib.Dec.{T, ltb, eqb, ltb→lt, eqb→eq}
+use Rattle.words.specs.Digits.{digit, xsum}
+use Rattle.words.specs.Refuse.{pick}
+use Rattle.words.proofs.Sums.{digit-scatter, scatter-lt, digit-ext}
+use Rattle.words.proofs.Tests.{both, both-left, both-right, allBelow, below}
+use Rattle.gift.specs.Gift.{bit, nibble, sbox, source, subCells, place, permBits}
+
+-- p goes from the numbers below n to themselves, and q undoes it
+abbrev undoing : (ℕ → ℕ) → (ℕ → ℕ) → ℕ → ℕ → Bool
+undoing p q n i = both (ltb (p i) n) (eqb (q (p i)) i)
+
+abbrev Undoes : (ℕ → ℕ) → (ℕ → ℕ) → ℕ → Type 0
+Undoes p q n = (i : ℕ) → i < n → (p i < n) × (q (p i) ≡ i)
+
+undoes : (p q : ℕ → ℕ) (n : ℕ) → T (allBelow (undoing p q n) n) → Undoes p q n
+undoes p q n t i l =
+    let b = below (undoing p q n) n t i l in
+    (ltb→lt (p i) n (both-left (ltb (p i) n) (eqb (q (p i)) i) b), eqb→eq (q (p i)) i (both-right (ltb (p i) n) (eqb (q (p i)) i) b))
+
+-- ---- the S-box
+
+sbox-undoes : (back : Bool) → Undoes (sbox back) (sbox (not back)) 16
+unfolding sbox source
+sbox-undoes false = undoes (sbox false) (sbox true) 16 tt
+sbox-undoes true = undoes (sbox true) (sbox false) 16 tt
+
+-- entry n of the S-box is nibble n of p
+pub packed : (back : Bool) (p : ℕ) → T (allBelow (λ n. eqb (p / 2 ^ (4 * n) % 16) (sbox back n)) 16) → (n : ℕ) → n < 16 → p / 2 ^ (4 * n) % 16 ≡ sbox back n
+packed back p t n h = eqb→eq _ _ (below (λ n. eqb (p / 2 ^ (4 * n) % 16) (sbox back n)) 16 t n h)
+
+nibble-lt : (j x : ℕ) → nibble j x < 16
+nibble-lt j x = mod-lt (x / 16 ^ j) (zero-lt-suc 15)
+
+module _ (back : Bool) where
+  sbox-lt : (x j : ℕ) → sbox back (nibble j x) < 16
+  sbox-lt x j = sbox-undoes back (nibble j x) (nibble-lt j x) .0
+
+  subCells-at : (x k : ℕ) → k < 32 → nibble k (subCells back x) ≡ sbox back (nibble k x)
+  unfolding subCells
+  subCells-at x k l = digit-scatter 4 (λ j. sbox back (nibble j x)) (λ j. j) 32 k k (sbox-lt x) l refl (λ i m e. e)
+
+  pub subCells-lt : (x : ℕ) → subCells back x < 2 ^ 128
+  unfolding subCells
+  subCells-lt x = scatter-lt 4 (λ j. sbox back (nibble j x)) (λ j. j) 32 32 (sbox-lt x) (λ j l. l)
+
+pub subCells-undone : (back : Bool) (x : ℕ) → x < 2 ^ 128 → subCells (not back) (subCells back x) ≡ x
+subCells-undone back x h =
+    digit-ext 16 32 (subCells (not back) (subCells back x)) x (zero-lt-suc 15) (subCells-lt (not back) (subCells back x)) h
+    (λ k l. subCells-at (not back) (subCells back x) k l ∙ ap (sbox (not back)) (subCells-at back x k l) ∙ sbox-undoes back (nibble k x) (nibble-lt k x) .1)
+
+-- ---- the bit move
+
+-- where bit k comes from
+comesFrom : ℕ → ℕ
+comesFrom k = 16 * (k % 32 / 4) + 4 * ((3 * (k / 32) + k % 4) % 4) + k % 4
+
+-- p moves the numbers below 128 among themselves
+record Moves (p : ℕ → ℕ) : Type 0 where
+  inside : (i : ℕ) → i < 128 → p i < 128
+  alone : (i j : ℕ) → i < 128 → j < 128 → p i ≡ p j → i ≡ j
+  source : (k : ℕ) → k < 128 → ℕ
+  source-inside : (k : ℕ) (h : k < 128) → source k h < 128
+  reaches : (k : ℕ) (h : k < 128) → p (source k h) ≡ k
+
+stays : Moves (λ i. i)
+stays = record { inside = λ i h. h; alone = λ i j hi hj e. e; source = λ k h. k; source-inside = λ k h. h; reaches = λ k h. refl }
+
+moved : (p q : ℕ → ℕ) → Undoes p q 128 → Undoes q p 128 → Moves p
+moved p q pq qp = record {
+  inside = λ i h. pq i h .0;
+  alone = λ i j hi hj e. sym (pq i hi .1) ∙ ap q e ∙ pq j hj .1;
+  source = λ k h. q k;
+  source-inside = λ k h. qp k h .0;
+  reaches = λ k h. qp k h .1;
+}
+
+place-moves : Moves place
+unfolding place comesFrom
+place-moves = moved place comesFrom (undoes place comesFrom 128 tt) (undoes comesFrom place 128 tt)
+
+pub from-lt : (back : Bool) (i : ℕ) → i < 128 → pick back (place i) i < 128
+from-lt false i h = h
+from-lt true i h = place-moves .inside i h
+
+pub to-lt : (back : Bool) (i : ℕ) → i < 128 → pick back i (place i) < 128
+to-lt false i h = place-moves .inside i h
+to-lt true i h = h
+
+-- bit f i of x at t i
+abbrev carried : (ℕ → ℕ) → (ℕ → ℕ) → ℕ → ℕ
+carried f t x = xsum (λ i. bit (f i) x * 2 ^ t i) 128
+
+bit-lt : (f : ℕ → ℕ) (x i : ℕ) → bit (f i) x < 2
+bit-lt f x i = mod-lt (x / 2 ^ f i) (zero-lt-suc 1)
+
+carried-at : (f t : ℕ → ℕ) → Moves t → (x j : ℕ) → j < 128 → bit (t j) (carried f t x) ≡ bit (f j) x
+carried-at f t m x j l = digit-scatter 1 (λ i. bit (f i) x) t 128 (t j) j (bit-lt f x) l refl (λ i k e. m .alone i j k l e)
+
+carried-lt : (f t : ℕ → ℕ) → Moves t → (x : ℕ) → carried f t x < 2 ^ 128
+carried-lt f t m x = scatter-lt 1 (λ i. bit (f i) x) t 128 128 (bit-lt f x) (m .inside)
+
+carried-undone : (f t : ℕ → ℕ) → Moves f → Moves t → (x : ℕ) → x < 2 ^ 128 → carried t f (carried f t x) ≡ x
+carried-undone f t mf mt x h =
+    digit-ext 2 128 (carried t f (carried f t x)) x (zero-lt-suc 1) (carried-lt t f mf (carried f t x)) h
+    (λ k l.
+    let j = mf .source k l in
+    ap (λ (i : ℕ). bit i (carried t f (carried f t x))) (sym (mf .reaches k l))
+    ∙ carried-at t f mf (carried f t x) j (mf .source-inside k l)
+    ∙ carried-at f t mt x j (mf .source-inside k l)
+    ∙ ap (λ (i : ℕ). bit i x) (mf .reaches k l))
+
+pub permBits-lt : (back : Bool) (x : ℕ) → permBits back x < 2 ^ 128
+unfolding permBits
+permBits-lt false x = carried-lt (λ i. i) place place-moves x
+permBits-lt true x = carried-lt place (λ i. i) stays x
+
+pub permBits-undone : (back : Bool) (x : ℕ) → x < 2 ^ 128 → permBits (not back) (permBits back x) ≡ x
+unfolding permBits
+permBits-undone false = carried-undone (λ i. i) place stays place-moves
+permBits-undone true = carried-undone place (λ i. i) place-moves stays

@@ -1,0 +1,92 @@
+use Prim.Native.Nat.{ℕ, _+_, _-_, _<_, _≤_}
+use mathlib.Core.Path.{_≡_, refl, sym, ap, _∙_}
+use native.Mathlib.Nat.{not-suc-le-zero}
+use native.Mathlib.Omega.{arith}
+use lib.ListN.{length, getD, length-set}
+use Rattle.words.specs.Block.{value, halves}
+use Rattle.words.proofs.Blocks.{halves-value}
+use Rattle.words.proofs.Lists.{fill-turn, fill-end}
+use Rattle.gift.specs.Gift.{stepConst, roundConst, keyAt, added}
+use Rattle.gift.specs.Entry.{additions}
+use Rattle.gift.proofs.Keys.{roundConst-next, state-turn, added-turn}
+use Rattle.gift.proofs.additions_of.Statement.{statement}
+use Rattle.gift.proofs.additions_of.Tie as tie
+
+abbrev Inv-loop : tie.InvT-loop
+Inv-loop out₀ state₀ c₀ r₀ out state c r =
+    (r ≤ 40) × (c < 64) × (c ≡ roundConst r) × (state ≡ halves (keyAt (value state₀) r)) × (length out ≡ 40)
+    × ((j : ℕ) → j < r → getD out j (halves 0) ≡ halves (added (value state₀) j))
+
+abbrev μ-loop : tie.MeasureT-loop
+μ-loop out₀ state₀ c₀ r₀ out state c r = 40 - r
+
+loop-holds : tie.Need-loop-holds Inv-loop μ-loop
+unfolding roundConst keyAt
+loop-holds c = (omega arith, omega arith, refl, sym (halves-value (c .args .key) (omega arith)), refl, λ j h. absurd (not-suc-le-zero h))
+
+step-const-requires : tie.Need-step-const-requires Inv-loop μ-loop
+step-const-requires c κs = omega arith
+
+key-bits-requires : tie.Need-key-bits-requires Inv-loop μ-loop
+key-bits-requires c κs = tt
+
+const-bits-requires : tie.Need-const-bits-requires Inv-loop μ-loop
+const-bits-requires c κs = tt
+
+xor-requires : tie.Need-xor-requires Inv-loop μ-loop
+xor-requires c κs = tt
+
+mul-out : tie.Need-mul-out Inv-loop μ-loop
+mul-out c = omega arith
+
+array-set-from-out : tie.Need-array-set-from-out Inv-loop μ-loop
+array-set-from-out c = omega arith
+
+key-step-requires : tie.Need-key-step-requires Inv-loop μ-loop
+key-step-requires c κs = tt
+
+add-r : tie.Need-add-r Inv-loop μ-loop
+add-r c = omega arith
+
+loop-less : tie.Need-loop-less Inv-loop μ-loop
+loop-less c = omega arith
+
+loop-again : tie.Need-loop-again Inv-loop μ-loop
+loop-again c =
+    let d = c .before .before .before .before in
+    let l = d .before .before .loop in
+    let k = value (d .before .before .before .args .key) in
+    let e : l .r < length (l .out) = omega arith in (
+      omega arith,
+      omega arith,
+      d .step-const .ensures .0 ∙ ap stepConst (l .inv .2) ∙ sym (roundConst-next (l .r)),
+      state-turn k (l .r) (l .inv .3) (c .key-step .ensures),
+      length-set (l .out) (l .r) (c .before .xor .result) ∙ l .inv .4,
+      fill-turn (λ j. halves (added k j)) (halves 0) (l .out) (l .r) (c .before .xor .result) e (l .inv .5)
+          (added-turn k (l .r) (l .inv .3) (l .inv .2) (d .step-const .ensures .0) (c .before .before .before .key-bits .ensures) (c .before .before .const-bits .ensures) (c .before .xor .ensures)),
+    )
+
+returns : tie.Need-returns Inv-loop μ-loop
+unfolding additions
+returns c =
+    let l = c .before .loop in
+    ap (λ o. record { rounds = o }) (fill-end _ (halves 0) (l .out) 40 (l .inv .4) (λ j h. l .inv .5 j (omega arith)))
+
+pub additions-of-spec : {M : Type 1} → statement M
+additions-of-spec =
+    tie.close
+    (tie.spec
+    Inv-loop
+    μ-loop
+    loop-holds
+    step-const-requires
+    key-bits-requires
+    const-bits-requires
+    xor-requires
+    mul-out
+    array-set-from-out
+    key-step-requires
+    add-r
+    loop-less
+    loop-again
+    returns)

@@ -1,0 +1,51 @@
+-- What the entry points answer.
+-- Assumes nothing.
+use Prim.Native.Nat.{ℕ, zero}
+use mathlib.Core.Bool.{Bool, true, false, not}
+use mathlib.Core.List.{List, [], _∷_}
+use lib.Dec.{eqb}
+use lib.ListN.{length, getD}
+use Rattle.words.specs.declared.Block.{Block}
+use Rattle.words.specs.Block.{value, halves}
+use Rattle.words.specs.Bytes.{number, bytes}
+use Rattle.words.specs.Digits.{tab}
+use Rattle.words.specs.Refuse.{Row, Answer, answer}
+use Rattle.gift.specs.declared.Additions.{Additions}
+use Rattle.gift.specs.Gift.{place, added, forty}
+
+-- the places that bits 0, 1, .., 127 move to
+abbrev pub placeTable : List ℕ
+placeTable = tab place 0 128
+
+-- ---- with the additions of all rounds worked out
+
+unfoldable pub additions : ℕ → Additions
+additions k = record { rounds = tab (λ r. halves (added k r)) 0 40 }
+
+-- what round r adds
+unfoldable pub addition : Additions → ℕ → ℕ
+addition a r = value (getD (a .rounds) r (halves 0))
+
+unfoldable pub enciphers : Additions → ℕ → ℕ
+enciphers a x = forty false (addition a) x
+
+unfoldable pub deciphers : Additions → ℕ → ℕ
+deciphers a x = forty true (addition a) x
+
+-- ---- on byte buffers: 1 "key has a wrong length", 4 "text or block length not allowed"
+
+abbrev pub refusals : List ℕ → List ℕ → List Row
+refusals key block =
+    record { applies = not (eqb (length key) 16); number = 1 }
+    ∷ record { applies = not (eqb (length block) 16); number = 4 }
+    ∷ []
+
+-- the number that is answered, and the bytes of the block then
+unfoldable pub crypting : Bool → List ℕ → List ℕ → Answer (List ℕ)
+crypting back key block = answer (refusals key block) (bytes 16 (forty back (added (number key)) (number block))) block
+
+abbrev pub enciphering : List ℕ → List ℕ → Answer (List ℕ)
+enciphering key block = crypting false key block
+
+abbrev pub deciphering : List ℕ → List ℕ → Answer (List ℕ)
+deciphering key block = crypting true key block

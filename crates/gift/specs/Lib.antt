@@ -1,0 +1,2 @@
+pub mod Gift
+pub mod Entry

@@ -1,0 +1,389 @@
+// GIFT-128, both ways.
+ghost use mathlib.Core.Path.{_≡_};
+ghost use Prim.Native.Nat.{ℕ, _+_, _-_, _*_, _%_, _<_, _≤_, _^_};
+ghost use lib.Bits.{bitXor};
+ghost use lib.ListN.{length};
+ghost use Rattle.words.specs.Block.{value, halves};
+ghost use Rattle.words.specs.Digits.{rotr};
+ghost use Rattle.words.specs.Refuse.{pick, answered};
+ghost use Rattle.gift.specs.Gift.{bit, nibble, sbox, subCells, place, permBits, spread, keyBits, stepConst, constBits, keyStep, round, forty};
+ghost use Rattle.gift.specs.Entry.{placeTable, additions, addition, enciphers, deciphers, crypting, enciphering, deciphering};
+use words::Block;
+
+// What each of the forty rounds adds to the block: worked out once for a key, it serves for many blocks.
+pub struct Additions {
+    pub rounds: [Block; 40],
+}
+
+// Enciphers block in place. Answers 0, or the refusal.
+pub fn encipher(key: &[u8], block: &mut [u8]) -> u32
+    ensures { λ r. ⌜ answered r (now (block .exit)) ≡ enciphering (now (key .entry)) (now (block .entry)) ⌝ }
+{
+    crypt(false, key, block)
+}
+
+// Deciphers block in place. Answers 0, or the refusal.
+pub fn decipher(key: &[u8], block: &mut [u8]) -> u32
+    ensures { λ r. ⌜ answered r (now (block .exit)) ≡ deciphering (now (key .entry)) (now (block .entry)) ⌝ }
+{
+    crypt(true, key, block)
+}
+
+pub fn additions_of(key: Block) -> Additions
+    ensures { λ r. ⌜ r ≡ additions (value key) ⌝ }
+{
+    let mut out = [Block { lo: 0, hi: 0 }; 40];
+    let mut state = key;
+    let mut c: u64 = 0;
+    let mut r: usize = 0;
+    while r < 40 {
+        c = step_const(c);
+        out[r] = words::xor(key_bits(state), const_bits(c));
+        state = key_step(state);
+        r += 1;
+    }
+    Additions { rounds: out }
+}
+
+pub fn encipher_block(a: Additions, x: Block) -> Block
+    ensures { λ r. ⌜ r ≡ halves (enciphers a (value x)) ⌝ }
+{
+    forty_rounds(false, a, x)
+}
+
+pub fn decipher_block(a: Additions, x: Block) -> Block
+    ensures { λ r. ⌜ r ≡ halves (deciphers a (value x)) ⌝ }
+{
+    forty_rounds(true, a, x)
+}
+
+fn crypt(back: bool, key: &[u8], block: &mut [u8]) -> u32
+    ensures { λ r. ⌜ answered r (now (block .exit)) ≡ crypting back (now (key .entry)) (now (block .entry)) ⌝ }
+{
+    if key.len() != 16 {
+        return 1;
+    }
+    if block.len() != 16 {
+        return 4;
+    }
+    let a = additions_of(words::load(key, 0, 16));
+    let x = words::load(&block[..], 0, 16);
+    words::store(block, 0, 16, forty_rounds(back, a, x));
+    0
+}
+
+fn forty_rounds(back: bool, a: Additions, x: Block) -> Block
+    ensures { λ r. ⌜ r ≡ halves (forty back (addition a) (value x)) ⌝ }
+{
+    let places = PLACES;
+    let rounds = a.rounds;
+    let mut y = x;
+    let mut r: usize = 0;
+    while r < 40 {
+        let at = turn(back, r);
+        y = round_of(back, rounds[at], y, &places);
+        r += 1;
+    }
+    y
+}
+
+// Which round comes r-th.
+fn turn(back: bool, r: usize) -> usize
+    requires { ⌜ r < 40 ⌝ }
+    ensures { λ t. ⌜ (t ≡ pick back (39 - r) r) × (t < 40) ⌝ }
+{
+    if back { 39 - r } else { r }
+}
+
+fn round_of(back: bool, a: Block, x: Block, places: &[u8; 128]) -> Block
+    requires { ⌜ now places ≡ placeTable ⌝ }
+    ensures { λ r. ⌜ r ≡ halves (round back (value a) (value x)) ⌝ }
+{
+    if back {
+        return sub_cells(back, perm_bits(back, words::xor(x, a), places));
+    }
+    words::xor(perm_bits(back, sub_cells(back, x), places), a)
+}
+
+fn sub_cells(back: bool, x: Block) -> Block
+    ensures { λ r. ⌜ r ≡ halves (subCells back (value x)) ⌝ }
+{
+    let mut acc = Block { lo: 0, hi: 0 };
+    let mut j: u64 = 0;
+    while j < 32 {
+        acc = put(acc, 4 * j, sbox_of(back, nibble_of(x, j)));
+        j += 1;
+    }
+    acc
+}
+
+// Entry n of a number is its nibble n: the S-box as a number has no place in memory that a secret could tell.
+const SBOX: u64 = 0xE8057BD293F6C4A1;
+
+const SBOX_BACK: u64 = 0x5F93A17EB4C2680D;
+
+fn sbox_of(back: bool, n: u64) -> u64
+    requires { ⌜ n < 16 ⌝ }
+    ensures { λ r. ⌜ (r ≡ sbox back n) × (r < 16) ⌝ }
+{
+    if back {
+        (SBOX_BACK >> (4 * n)) % 16
+    } else {
+        (SBOX >> (4 * n)) % 16
+    }
+}
+
+fn perm_bits(back: bool, x: Block, places: &[u8; 128]) -> Block
+    requires { ⌜ now places ≡ placeTable ⌝ }
+    ensures { λ r. ⌜ r ≡ halves (permBits back (value x)) ⌝ }
+{
+    let mut acc = Block { lo: 0, hi: 0 };
+    let mut i: usize = 0;
+    while i < 128 {
+        let p = wide(places[i]);
+        let from = either(back, p, i as u64);
+        let to = either(back, i as u64, p);
+        acc = put(acc, to, bit_of(x, from));
+        i += 1;
+    }
+    acc
+}
+
+fn either(first: bool, a: u64, b: u64) -> u64
+    ensures { λ r. ⌜ r ≡ pick first a b ⌝ }
+{
+    if first { a } else { b }
+}
+
+fn wide(x: u8) -> u64
+    ensures { λ r. ⌜ r ≡ x ⌝ }
+{
+    x as u64
+}
+
+fn key_bits(k: Block) -> Block
+    ensures { λ r. ⌜ r ≡ halves (keyBits (value k)) ⌝ }
+{
+    words::xor(
+        spread_of(2, 32, k.hi % 4294967296),
+        spread_of(1, 32, k.lo % 4294967296),
+    )
+}
+
+fn step_const(c: u64) -> u64
+    requires { ⌜ c < 64 ⌝ }
+    ensures { λ r. ⌜ (r ≡ stepConst c) × (r < 64) ⌝ }
+{
+    c * 2 % 64 + (c / 32 % 2 + c / 16 % 2 + 1) % 2
+}
+
+fn const_bits(c: u64) -> Block
+    ensures { λ r. ⌜ r ≡ halves (constBits c) ⌝ }
+{
+    put(spread_of(3, 6, c), 127, 1)
+}
+
+// Bit i of u at bit 4 i + o, for i from 0 to n - 1.
+fn spread_of(o: u64, n: u64, u: u64) -> Block
+    requires { ⌜ (o < 4) × (n ≤ 32) ⌝ }
+    ensures { λ r. ⌜ r ≡ halves (spread o n u) ⌝ }
+{
+    let mut acc = Block { lo: 0, hi: 0 };
+    let mut i: u64 = 0;
+    while i < n {
+        acc = put(acc, 4 * i + o, (u >> i) % 2);
+        i += 1;
+    }
+    acc
+}
+
+fn key_step(k: Block) -> Block
+    ensures { λ r. ⌜ r ≡ halves (keyStep (value k)) ⌝ }
+{
+    let a = rotr16(k.lo / 65536 % 65536, 2);
+    let b = rotr16(k.lo % 65536, 12);
+    Block {
+        lo: k.lo / 4294967296 + k.hi % 4294967296 * 4294967296,
+        hi: k.hi / 4294967296 + b * 4294967296 + a * 281474976710656,
+    }
+}
+
+// A word of 16 bits rotated right by n.
+fn rotr16(w: u64, n: u64) -> u64
+    requires { ⌜ (w < 65536) × (n ≤ 16) ⌝ }
+    ensures { λ r. ⌜ (r ≡ rotr 16 n w) × (r < 65536) ⌝ }
+{
+    (w << (16 - n)) % 65536 + (w >> n)
+}
+
+// b with v, shifted to s, added; v does not reach over the middle.
+fn put(b: Block, s: u64, v: u64) -> Block
+    requires { ⌜ (s < 128) × (v * 2 ^ (s % 64) < 2 ^ 64) ⌝ }
+    ensures { λ r. ⌜ r ≡ halves (bitXor (value b) (v * 2 ^ s)) ⌝ }
+{
+    if s < 64 {
+        Block {
+            lo: b.lo ^ (v << s),
+            hi: b.hi,
+        }
+    } else {
+        Block {
+            lo: b.lo,
+            hi: b.hi ^ (v << (s - 64)),
+        }
+    }
+}
+
+fn bit_of(b: Block, i: u64) -> u64
+    requires { ⌜ i < 128 ⌝ }
+    ensures { λ r. ⌜ r ≡ bit i (value b) ⌝ }
+{
+    if i < 64 {
+        (b.lo >> i) % 2
+    } else {
+        (b.hi >> (i - 64)) % 2
+    }
+}
+
+fn nibble_of(b: Block, j: u64) -> u64
+    requires { ⌜ j < 32 ⌝ }
+    ensures { λ r. ⌜ r ≡ nibble j (value b) ⌝ }
+{
+    if j < 16 {
+        (b.lo >> (4 * j)) % 16
+    } else {
+        (b.hi >> (4 * (j - 16))) % 16
+    }
+}
+
+// The place to which bit i moves.
+const PLACES: [u8; 128] = [
+    0,
+    33,
+    66,
+    99,
+    96,
+    1,
+    34,
+    67,
+    64,
+    97,
+    2,
+    35,
+    32,
+    65,
+    98,
+    3,
+    4,
+    37,
+    70,
+    103,
+    100,
+    5,
+    38,
+    71,
+    68,
+    101,
+    6,
+    39,
+    36,
+    69,
+    102,
+    7,
+    8,
+    41,
+    74,
+    107,
+    104,
+    9,
+    42,
+    75,
+    72,
+    105,
+    10,
+    43,
+    40,
+    73,
+    106,
+    11,
+    12,
+    45,
+    78,
+    111,
+    108,
+    13,
+    46,
+    79,
+    76,
+    109,
+    14,
+    47,
+    44,
+    77,
+    110,
+    15,
+    16,
+    49,
+    82,
+    115,
+    112,
+    17,
+    50,
+    83,
+    80,
+    113,
+    18,
+    51,
+    48,
+    81,
+    114,
+    19,
+    20,
+    53,
+    86,
+    119,
+    116,
+    21,
+    54,
+    87,
+    84,
+    117,
+    22,
+    55,
+    52,
+    85,
+    118,
+    23,
+    24,
+    57,
+    90,
+    123,
+    120,
+    25,
+    58,
+    91,
+    88,
+    121,
+    26,
+    59,
+    56,
+    89,
+    122,
+    27,
+    28,
+    61,
+    94,
+    127,
+    124,
+    29,
+    62,
+    95,
+    92,
+    125,
+    30,
+    63,
+    60,
+    93,
+    126,
+    31,
+];
