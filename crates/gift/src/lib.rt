@@ -38,12 +38,12 @@ pub fn additions_of(key: Block) -> Additions
     let mut out = [Block { lo: 0, hi: 0 }; 40];
     let mut state = key;
     let mut c: u64 = 0;
-    let mut r: usize = 0;
-    while r < 40 {
+    let mut i: usize = 0;
+    while i < 40 {
         c = step_const(c);
-        out[r] = words::xor(key_bits(state), const_bits(c));
+        out[i] = words::xor(key_bits(state), const_bits(c));
         state = key_step(state);
-        r += 1;
+        i += 1;
     }
     Additions { rounds: out }
 }

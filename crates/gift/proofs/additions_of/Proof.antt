@@ -13,12 +13,12 @@ use Rattle.gift.proofs.additions_of.Statement.{statement}
 use Rattle.gift.proofs.additions_of.Tie as tie
 
 abbrev Inv-loop : tie.InvT-loop
-Inv-loop out₀ state₀ c₀ r₀ out state c r =
-    (r ≤ 40) × (c < 64) × (c ≡ roundConst r) × (state ≡ halves (keyAt (value state₀) r)) × (length out ≡ 40)
-    × ((j : ℕ) → j < r → getD out j (halves 0) ≡ halves (added (value state₀) j))
+Inv-loop out₀ state₀ c₀ i₀ out state c i =
+    (i ≤ 40) × (c < 64) × (c ≡ roundConst i) × (state ≡ halves (keyAt (value state₀) i)) × (length out ≡ 40)
+    × ((j : ℕ) → j < i → getD out j (halves 0) ≡ halves (added (value state₀) j))
 
 abbrev μ-loop : tie.MeasureT-loop
-μ-loop out₀ state₀ c₀ r₀ out state c r = 40 - r
+μ-loop out₀ state₀ c₀ i₀ out state c i = 40 - i
 
 loop-holds : tie.Need-loop-holds Inv-loop μ-loop
 unfolding roundConst keyAt
@@ -45,8 +45,8 @@ array-set-from-out c = omega arith
 key-step-requires : tie.Need-key-step-requires Inv-loop μ-loop
 key-step-requires c κs = tt
 
-add-r : tie.Need-add-r Inv-loop μ-loop
-add-r c = omega arith
+add-i : tie.Need-add-i Inv-loop μ-loop
+add-i c = omega arith
 
 loop-less : tie.Need-loop-less Inv-loop μ-loop
 loop-less c = omega arith
@@ -56,14 +56,14 @@ loop-again c =
     let d = c .before .before .before .before in
     let l = d .before .before .loop in
     let k = value (d .before .before .before .args .key) in
-    let e : l .r < length (l .out) = omega arith in (
+    let e : l .i < length (l .out) = omega arith in (
       omega arith,
       omega arith,
-      d .step-const .ensures .0 ∙ ap stepConst (l .inv .2) ∙ sym (roundConst-next (l .r)),
-      state-turn k (l .r) (l .inv .3) (c .key-step .ensures),
-      length-set (l .out) (l .r) (c .before .xor .result) ∙ l .inv .4,
-      fill-turn (λ j. halves (added k j)) (halves 0) (l .out) (l .r) (c .before .xor .result) e (l .inv .5)
-          (added-turn k (l .r) (l .inv .3) (l .inv .2) (d .step-const .ensures .0) (c .before .before .before .key-bits .ensures) (c .before .before .const-bits .ensures) (c .before .xor .ensures)),
+      d .step-const .ensures .0 ∙ ap stepConst (l .inv .2) ∙ sym (roundConst-next (l .i)),
+      state-turn k (l .i) (l .inv .3) (c .key-step .ensures),
+      length-set (l .out) (l .i) (c .before .xor .result) ∙ l .inv .4,
+      fill-turn (λ j. halves (added k j)) (halves 0) (l .out) (l .i) (c .before .xor .result) e (l .inv .5)
+          (added-turn k (l .i) (l .inv .3) (l .inv .2) (d .step-const .ensures .0) (c .before .before .before .key-bits .ensures) (c .before .before .const-bits .ensures) (c .before .xor .ensures)),
     )
 
 returns : tie.Need-returns Inv-loop μ-loop
@@ -86,7 +86,7 @@ additions-of-spec =
     mul-out
     array-set-from-out
     key-step-requires
-    add-r
+    add-i
     loop-less
     loop-again
     returns)
