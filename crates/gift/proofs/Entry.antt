@@ -1,6 +1,6 @@
 -- The entry points: what their steps leave, that one result is allowed, and that they undo each other on every input.
 -- Assumes nothing.
-use mathlib.Core.Path.{_≡_, refl, sym, ap, _∙_, subst⁻¹}
+use mathlib.Core.Path.{_≡_, refl, sym, ap, ap₂, _∙_, subst⁻¹}
 use mathlib.Core.Bool.{Bool, true, false, not}
 use mathlib.Core.List.{List, [], _∷_}
 use Prim.Native.Nat.{ℕ, _^_, _<_}
@@ -17,9 +17,9 @@ use Rattle.words.proofs.Bytes.{length-bytes, number-bytes, bytes-number, number
 use Rattle.words.proofs.Lists.{tab-at}
 use Rattle.words.proofs.Refusals.{same, same-answer}
 use Rattle.gift.specs.declared.Additions.{Additions}
-use Rattle.gift.specs.Gift.{added, forty, encipher, decipher}
+use Rattle.gift.specs.Gift.{added, forty, cipher, encipher, decipher}
 use Rattle.gift.specs.Entry.{additions, addition, enciphers, deciphers, crypting, enciphering, deciphering}
-use Rattle.gift.proofs.Inverse.{added-lt, forty-same, forty-lt, forty-undone}
+use Rattle.gift.proofs.Inverse.{forty-same, cipher-lt, cipher-undone}
 
 -- ---- the additions, worked out, are those of the rounds
 
@@ -27,15 +27,16 @@ addition-is : (k r : ℕ) → r < 40 → addition (additions k) r ≡ added k r
 unfolding additions addition
 addition-is k r h = ap value (tab-at (λ i. halves (added k i)) (halves 0) 40 r h) ∙ value-halves (added k r)
 
-forty-is : (back : Bool) (k x : ℕ) → forty back (addition (additions k)) x ≡ forty back (added k) x
+forty-is : (back : Bool) (k x : ℕ) → forty back (addition (additions k)) x ≡ cipher back k x
+unfolding cipher
 forty-is back k x = forty-same back (addition (additions k)) (added k) x (addition-is k)
 
 pub enciphers-is : (k x : ℕ) → enciphers (additions k) x ≡ encipher k x
-unfolding enciphers encipher
+unfolding enciphers
 enciphers-is k x = forty-is false k x
 
 pub deciphers-is : (k x : ℕ) → deciphers (additions k) x ≡ decipher k x
-unfolding deciphers decipher
+unfolding deciphers
 deciphers-is k x = forty-is true k x
 
 -- ---- what a call leaves
@@ -49,7 +50,7 @@ module _ (back : Bool) (key block : List ℕ) where
   unfolding crypting
   refused-block hk h = simp (eq-eqb _ _ hk, ne-eqb _ _ h)
 
-  done : length key ≡ 16 → length block ≡ 16 → answered 0 (bytes 16 (forty back (added (number key)) (number block))) ≡ crypting back key block
+  done : length key ≡ 16 → length block ≡ 16 → answered 0 (bytes 16 (cipher back (number key) (number block))) ≡ crypting back key block
   unfolding crypting
   done hk hb = simp (eq-eqb _ _ hk, eq-eqb _ _ hb)
 
@@ -63,7 +64,7 @@ module _ (back : Bool) (key block : List ℕ) where
       (ee ∙ stored-all block (value y) hb
       ∙ ap (bytes 16)
       (value-is ey ∙ ap (λ b. forty back (addition b) (value x)) ea ∙ forty-is back (value k) (value x)
-      ∙ ap (λ (i : ℕ). forty back (added i) (value x)) vk ∙ ap (forty back (added (number key))) vx))
+      ∙ ap₂ (cipher back) vk vx))
       ∙ done hk hb
 
 -- ---- each undoes the other, on every input: what is refused is left as it was
@@ -73,12 +74,12 @@ module _ (back : Bool) (key block : List ℕ) (are : Bytes block) where
   undone-done hk hb =
       let k = number key in
       let x = number block in
-      let y = forty back (added k) x in
+      let y = cipher back k x in
       let hx : x < 2 ^ 128 = subst⁻¹ (λ (n : ℕ). x < n) refl (subst⁻¹ (λ (n : ℕ). x < 256 ^ n) (sym hb) (number-lt block are)) in
       ap (λ r. crypting (not back) key (r .left) .left) (sym (done back key block hk hb))
       ∙ ap (λ r. r .left) (sym (done (not back) key (bytes 16 y) hk (length-bytes 16 y)))
-      ∙ ap (λ (z : ℕ). bytes 16 (forty (not back) (added k) z)) (number-bytes 16 y (forty-lt back (added k) x (added-lt k) hx))
-      ∙ ap (bytes 16) (forty-undone back (added k) x (added-lt k) hx)
+      ∙ ap (λ (z : ℕ). bytes 16 (cipher (not back) k z)) (number-bytes 16 y (cipher-lt back k x hx))
+      ∙ ap (bytes 16) (cipher-undone back k x hx)
       ∙ ap (λ (n : ℕ). bytes n x) (sym hb)
       ∙ bytes-number block are
 

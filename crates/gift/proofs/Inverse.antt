@@ -8,10 +8,10 @@ use native.Mathlib.Numerals.{add-one}
 use native.Mathlib.Omega.{arith}
 use lib.Bits.{bitXor, xor-lt}
 use lib.Dec.{lit<, lit≤}
-use Rattle.words.specs.Refuse.{pick}
+use Rattle.words.specs.Pick.{pick}
 use Rattle.words.proofs.ExclusiveOr.{xor-undo}
 use Rattle.words.proofs.Sums.{scatter-lt}
-use Rattle.gift.specs.Gift.{bit, subCells, permBits, spread, keyBits, constBits, keyU, keyV, keyAt, roundConst, added, round, rounds, forty, encipher, decipher}
+use Rattle.gift.specs.Gift.{bit, subCells, permBits, spread, keyBits, constBits, keyU, keyV, keyAt, roundConst, added, round, rounds, forty, cipher, encipher, decipher}
 use Rattle.gift.proofs.Steps.{subCells-lt, subCells-undone, permBits-lt, permBits-undone}
 
 -- ---- what a round adds is a block, whatever the key
@@ -20,7 +20,7 @@ spread-lt : (o n u : ℕ) → o < 4 → n ≤ 32 → spread o n u < 2 ^ 128
 unfolding spread
 spread-lt o n u h m = scatter-lt 1 (λ i. bit i u) (λ i. 4 * i + o) n 128 (λ i. mod-lt _ (zero-lt-suc 1)) (λ i l. omega arith)
 
-pub added-lt : (k r : ℕ) → added k r < 2 ^ 128
+added-lt : (k r : ℕ) → added k r < 2 ^ 128
 unfolding added keyBits constBits
 added-lt k r =
     xor-lt 128 _ _
@@ -106,11 +106,11 @@ forty-same back a b x h =
     rounds-same back (λ r. a (pick back (39 - r) r)) (λ r. b (pick back (39 - r) r)) 40 x (λ r l. h (pick back (39 - r) r) (turned-lt back r l))
 
 module _ (back : Bool) (a : ℕ → ℕ) (x : ℕ) (small : (r : ℕ) → a r < 2 ^ 128) (h : x < 2 ^ 128) where
-  pub forty-lt : forty back a x < 2 ^ 128
+  forty-lt : forty back a x < 2 ^ 128
   unfolding forty
   forty-lt = rounds-lt back (λ r. a (pick back (39 - r) r)) 40 x (λ r. small (pick back (39 - r) r)) h
 
-  pub forty-undone : forty (not back) a (forty back a x) ≡ x
+  forty-undone : forty (not back) a (forty back a x) ≡ x
   unfolding forty
   forty-undone =
       let b : ℕ → ℕ = λ r. a (pick back (39 - r) r) in
@@ -118,10 +118,17 @@ module _ (back : Bool) (a : ℕ → ℕ) (x : ℕ) (small : (r : ℕ) → a r < 
       ∙ rounds-undone back b 40 x (λ r. small (pick back (39 - r) r)) h
 
 -- for every key and every block below 2 ^ 128
+module _ (back : Bool) (k x : ℕ) (h : x < 2 ^ 128) where
+  pub cipher-lt : cipher back k x < 2 ^ 128
+  unfolding cipher
+  cipher-lt = forty-lt back (added k) x (added-lt k) h
+
+  pub cipher-undone : cipher (not back) k (cipher back k x) ≡ x
+  unfolding cipher
+  cipher-undone = forty-undone back (added k) x (added-lt k) h
+
 pub decipher-encipher : (k x : ℕ) → x < 2 ^ 128 → decipher k (encipher k x) ≡ x
-unfolding encipher decipher
-decipher-encipher k x h = forty-undone false (added k) x (added-lt k) h
+decipher-encipher = cipher-undone false
 
 pub encipher-decipher : (k x : ℕ) → x < 2 ^ 128 → encipher k (decipher k x) ≡ x
-unfolding encipher decipher
-encipher-decipher k x h = forty-undone true (added k) x (added-lt k) h
+encipher-decipher = cipher-undone true

@@ -6,7 +6,7 @@ use Prim.Native.Nat.{ℕ, zero, _+_, _*_, _/_, _%_, _^_, _<_}
 use native.Mathlib.Nat.{zero-lt-suc, mod-lt}
 use lib.Dec.{T, ltb, eqb, ltb→lt, eqb→eq}
 use Rattle.words.specs.Digits.{digit, xsum}
-use Rattle.words.specs.Refuse.{pick}
+use Rattle.words.specs.Pick.{pick}
 use Rattle.words.proofs.Sums.{digit-scatter, scatter-lt, digit-ext}
 use Rattle.words.proofs.Tests.{both, both-left, both-right, allBelow, below}
 use Rattle.gift.specs.Gift.{bit, nibble, sbox, source, subCells, place, permBits}
@@ -64,19 +64,19 @@ comesFrom k = 16 * (k % 32 / 4) + 4 * ((3 * (k / 32) + k % 4) % 4) + k % 4
 record Moves (p : ℕ → ℕ) : Type 0 where
   inside : (i : ℕ) → i < 128 → p i < 128
   alone : (i j : ℕ) → i < 128 → j < 128 → p i ≡ p j → i ≡ j
-  source : (k : ℕ) → k < 128 → ℕ
-  source-inside : (k : ℕ) (h : k < 128) → source k h < 128
-  reaches : (k : ℕ) (h : k < 128) → p (source k h) ≡ k
+  from : (k : ℕ) → k < 128 → ℕ
+  from-inside : (k : ℕ) (h : k < 128) → from k h < 128
+  reaches : (k : ℕ) (h : k < 128) → p (from k h) ≡ k
 
 stays : Moves (λ i. i)
-stays = record { inside = λ i h. h; alone = λ i j hi hj e. e; source = λ k h. k; source-inside = λ k h. h; reaches = λ k h. refl }
+stays = record { inside = λ i h. h; alone = λ i j hi hj e. e; from = λ k h. k; from-inside = λ k h. h; reaches = λ k h. refl }
 
 moved : (p q : ℕ → ℕ) → Undoes p q 128 → Undoes q p 128 → Moves p
 moved p q pq qp = record {
   inside = λ i h. pq i h .0;
   alone = λ i j hi hj e. sym (pq i hi .1) ∙ ap q e ∙ pq j hj .1;
-  source = λ k h. q k;
-  source-inside = λ k h. qp k h .0;
+  from = λ k h. q k;
+  from-inside = λ k h. qp k h .0;
   reaches = λ k h. qp k h .1;
 }
 
@@ -109,10 +109,10 @@ carried-undone : (f t : ℕ → ℕ) → Moves f → Moves t → (x : ℕ) → x
 carried-undone f t mf mt x h =
     digit-ext 2 128 (carried t f (carried f t x)) x (zero-lt-suc 1) (carried-lt t f mf (carried f t x)) h
     (λ k l.
-    let j = mf .source k l in
+    let j = mf .from k l in
     ap (λ (i : ℕ). bit i (carried t f (carried f t x))) (sym (mf .reaches k l))
-    ∙ carried-at t f mf (carried f t x) j (mf .source-inside k l)
-    ∙ carried-at f t mt x j (mf .source-inside k l)
+    ∙ carried-at t f mf (carried f t x) j (mf .from-inside k l)
+    ∙ carried-at f t mt x j (mf .from-inside k l)
     ∙ ap (λ (i : ℕ). bit i x) (mf .reaches k l))
 
 pub permBits-lt : (back : Bool) (x : ℕ) → permBits back x < 2 ^ 128

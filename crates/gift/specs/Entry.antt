@@ -11,7 +11,7 @@ use Rattle.words.specs.Bytes.{number, bytes}
 use Rattle.words.specs.Digits.{tab}
 use Rattle.words.specs.Refuse.{Row, Answer, answer}
 use Rattle.gift.specs.declared.Additions.{Additions}
-use Rattle.gift.specs.Gift.{place, added, forty}
+use Rattle.gift.specs.Gift.{place, added, forty, cipher}
 
 -- the places that bits 0, 1, .., 127 move to
 abbrev pub placeTable : List ℕ
@@ -42,7 +42,7 @@ refusals key block =
 
 -- the number that is answered, and the bytes of the block then
 unfoldable pub crypting : Bool → List ℕ → List ℕ → Answer (List ℕ)
-crypting back key block = answer (refusals key block) (bytes 16 (forty back (added (number key)) (number block))) block
+crypting back key block = answer (refusals key block) (bytes 16 (cipher back (number key) (number block))) block
 
 abbrev pub enciphering : List ℕ → List ℕ → Answer (List ℕ)
 enciphering key block = crypting false key block

@@ -9,7 +9,7 @@ use lib.Bits.{bitXor}
 use lib.Dec.{eqb}
 use lib.ListN.{getD}
 use Rattle.words.specs.Digits.{digit, rotr, xsum}
-use Rattle.words.specs.Refuse.{pick}
+use Rattle.words.specs.Pick.{pick}
 
 -- bit i and nibble j of x, counted from the lowest
 abbrev pub bit : ℕ → ℕ → ℕ
@@ -108,8 +108,11 @@ rounds back a (suc n) x = round back (a n) (rounds back a n x)
 unfoldable pub forty : Bool → (ℕ → ℕ) → ℕ → ℕ
 forty back a x = rounds back (λ r. a (pick back (39 - r) r)) 40 x
 
-unfoldable pub encipher : ℕ → ℕ → ℕ
-encipher k x = forty false (added k) x
+unfoldable pub cipher : Bool → ℕ → ℕ → ℕ
+cipher back k x = forty back (added k) x
 
-unfoldable pub decipher : ℕ → ℕ → ℕ
-decipher k x = forty true (added k) x
+abbrev pub encipher : ℕ → ℕ → ℕ
+encipher k x = cipher false k x
+
+abbrev pub decipher : ℕ → ℕ → ℕ
+decipher k x = cipher true k x

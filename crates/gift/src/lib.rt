@@ -5,7 +5,8 @@ ghost use lib.Bits.{bitXor};
 ghost use lib.ListN.{length};
 ghost use Rattle.words.specs.Block.{value, halves};
 ghost use Rattle.words.specs.Digits.{rotr};
-ghost use Rattle.words.specs.Refuse.{pick, answered};
+ghost use Rattle.words.specs.Pick.{pick};
+ghost use Rattle.words.specs.Refuse.{answered};
 ghost use Rattle.gift.specs.Gift.{bit, nibble, sbox, subCells, place, permBits, spread, keyBits, stepConst, constBits, keyStep, round, forty};
 ghost use Rattle.gift.specs.Entry.{placeTable, additions, addition, enciphers, deciphers, crypting, enciphering, deciphering};
 
@@ -143,7 +144,7 @@ fn perm_bits(back: bool, x: Block, places: &[u8; 128]) -> Block
     let mut acc = Block { lo: 0, hi: 0 };
     let mut i: usize = 0;
     while i < 128 {
-        let p = wide(places[i]);
+        let p = words::wide(places[i]);
         let from = either(back, p, i as u64);
         let to = either(back, i as u64, p);
         acc = put(acc, to, bit_of(x, from));
@@ -156,12 +157,6 @@ fn either(first: bool, a: u64, b: u64) -> u64
     ensures { λ r. ⌜ r ≡ pick first a b ⌝ }
 {
     if first { a } else { b }
-}
-
-fn wide(x: u8) -> u64
-    ensures { λ r. ⌜ r ≡ x ⌝ }
-{
-    x as u64
 }
 
 fn key_bits(k: Block) -> Block

@@ -91,12 +91,8 @@ fn put(number: u32, s: &[u8]) {
     let mut i = s.len();
     while i > 0 {
         i -= 1;
-        io::print_hex(STDOUT_FILENO, wide(s[i]), 2);
+        io::print_hex(STDOUT_FILENO, words::wide(s[i]), 2);
     }
-}
-
-fn wide(x: u8) -> u64 {
-    x as u64
 }
 
 // Puts the bytes of the field that stands in s from at to end into room, the least significant first, and

@@ -8,6 +8,9 @@ use Rattle.words.specs.declared.Block.{Block}
 use Rattle.words.specs.Block.{value, halves, loaded, loadedPad, stored}
 use Rattle.words.proofs.Refusals.{same}
 
+pub wide-single : (x : ℕ) {r s : ℕ} → r ≡ x → s ≡ x → r ≡ s
+wide-single x = same
+
 pub xor-single : (a b : Block) {r s : Block} → r ≡ halves (bitXor (value a) (value b)) → s ≡ halves (bitXor (value a) (value b)) → r ≡ s
 xor-single a b = same
 

@@ -1,4 +1,5 @@
 -- The definitions that all contracts share.
+pub mod Pick
 pub mod Digits
 pub mod Bytes
 pub mod Block

@@ -1,12 +1,9 @@
 -- What comes back: "Where several apply, the smallest number is given."
 -- Assumes nothing.
 use Prim.Native.Nat.{ℕ}
-use mathlib.Core.Bool.{Bool, true, false}
+use mathlib.Core.Bool.{Bool}
 use mathlib.Core.List.{List, [], _∷_}
-
-abbrev pub pick : {A : Type 0} → Bool → A → A → A
-pick true a b = a
-pick false a b = b
+use Rattle.words.specs.Pick.{pick}
 
 -- a line of the table: does it apply, and its number
 pub record Row : Type 0 where

@@ -15,6 +15,13 @@ pub struct Block {
     pub hi: u64,
 }
 
+// A byte, in 64 bits.
+pub fn wide(x: u8) -> u64
+    ensures { λ r. ⌜ r ≡ x ⌝ }
+{
+    x as u64
+}
+
 pub fn xor(a: Block, b: Block) -> Block
     ensures { λ r. ⌜ r ≡ halves (bitXor (value a) (value b)) ⌝ }
 {
@@ -105,12 +112,6 @@ fn above(n: usize, top: u8) -> u64
     ensures { λ r. ⌜ r ≡ number (filled top (8 - n) []) ⌝ }
 {
     if n < 8 { wide(top) } else { 0 }
-}
-
-fn wide(x: u8) -> u64
-    ensures { λ r. ⌜ r ≡ x ⌝ }
-{
-    x as u64
 }
 
 // Writes the n low bytes of w to s from at on.

@@ -4,7 +4,7 @@ use native.Mathlib.Omega.{arith}
 use lib.ListN.{getD}
 use Rattle.words.specs.Block.{value, halves}
 use Rattle.words.specs.Digits.{tab}
-use Rattle.words.specs.Refuse.{pick}
+use Rattle.words.specs.Pick.{pick}
 use Rattle.words.proofs.Blocks.{value-is, halves-value}
 use Rattle.gift.specs.Gift.{place, round, rounds, forty}
 use Rattle.gift.specs.Entry.{addition}

@@ -5,7 +5,7 @@ use lib.ListN.{getD}
 use denote.Ref.{now}
 use Rattle.words.specs.Block.{value, halves}
 use Rattle.words.specs.Digits.{xsum}
-use Rattle.words.specs.Refuse.{pick}
+use Rattle.words.specs.Pick.{pick}
 use Rattle.words.proofs.Blocks.{sum-turn}
 use Rattle.words.proofs.Lists.{tab-at}
 use Rattle.gift.specs.Gift.{bit, place, permBits}

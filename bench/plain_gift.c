@@ -1,0 +1,133 @@
+/* GIFT-128 as one would write it in C without further thought: two halves of
+   64 bits, the S-box nibble by nibble, every bit moved singly, and the key
+   additions worked out anew in each call. Steps are those of document 01,
+   GIFT-128. */
+
+#include "plain_gift.h"
+
+struct halves {
+    uint64_t low;
+    uint64_t high;
+};
+
+/* Step 1: the S-box. */
+static const uint8_t sbox[16] = {
+    0x1, 0xa, 0x4, 0xc, 0x6, 0xf, 0x3, 0x9,
+    0x2, 0xd, 0xb, 0x7, 0x5, 0x0, 0x8, 0xe,
+};
+
+/* Step 2: the place to which bit i moves. */
+#define PLACE(i) \
+    (4 * ((i) / 16) + 32 * ((3 * (((i) % 16) / 4) + (i) % 4) % 4) + (i) % 4)
+#define PLACES_4(i) PLACE(i), PLACE((i) + 1), PLACE((i) + 2), PLACE((i) + 3)
+#define PLACES_16(i) \
+    PLACES_4(i), PLACES_4((i) + 4), PLACES_4((i) + 8), PLACES_4((i) + 12)
+
+static const uint8_t places[128] = {
+    PLACES_16(0),  PLACES_16(16), PLACES_16(32), PLACES_16(48),
+    PLACES_16(64), PLACES_16(80), PLACES_16(96), PLACES_16(112),
+};
+
+static uint64_t load(const uint8_t bytes[8])
+{
+    uint64_t number = 0;
+    for (int j = 7; j >= 0; j--) {
+        number = number << 8 | bytes[j];
+    }
+    return number;
+}
+
+static void store(uint8_t bytes[8], uint64_t number)
+{
+    for (int j = 0; j < 8; j++) {
+        bytes[j] = (uint8_t)(number >> (8 * j));
+    }
+}
+
+static uint64_t substitute(uint64_t half)
+{
+    uint64_t result = 0;
+    for (int n = 0; n < 16; n++) {
+        result |= (uint64_t)sbox[(half >> (4 * n)) & 15] << (4 * n);
+    }
+    return result;
+}
+
+static void set_bit(struct halves *state, unsigned place, uint64_t bit)
+{
+    if (place < 64) {
+        state->low |= bit << place;
+    } else {
+        state->high |= bit << (place - 64);
+    }
+}
+
+static struct halves move_bits(struct halves state)
+{
+    struct halves moved = {0, 0};
+    for (int i = 0; i < 64; i++) {
+        set_bit(&moved, places[i], (state.low >> i) & 1);
+        set_bit(&moved, places[64 + i], (state.high >> i) & 1);
+    }
+    return moved;
+}
+
+/* Step 3 for one half: sixteen bits of U go to bits 4i+2, sixteen bits of V
+   to bits 4i+1. */
+static uint64_t spread(uint32_t u, uint32_t v)
+{
+    uint64_t result = 0;
+    for (int i = 0; i < 16; i++) {
+        result |= (uint64_t)((u >> i) & 1) << (4 * i + 2);
+        result |= (uint64_t)((v >> i) & 1) << (4 * i + 1);
+    }
+    return result;
+}
+
+/* Step 4: the round constant's bits c5..c0 belong to bits 23, 19, .. 3. */
+static uint64_t spread_constant(unsigned constant)
+{
+    uint64_t result = 0;
+    for (int n = 0; n < 6; n++) {
+        result |= (uint64_t)((constant >> n) & 1) << (4 * n + 3);
+    }
+    return result;
+}
+
+static uint64_t rotate_right_16(uint64_t word, int places_right)
+{
+    return (word >> places_right | word << (16 - places_right)) & 0xffff;
+}
+
+/* Step 5: k7..k4 lie in the high half, k3..k0 in the low one. */
+static struct halves step_key(struct halves key)
+{
+    uint64_t k0 = key.low & 0xffff;
+    uint64_t k1 = (key.low >> 16) & 0xffff;
+    struct halves next;
+    next.low = key.low >> 32 | key.high << 32;
+    next.high = rotate_right_16(k1, 2) << 48 | rotate_right_16(k0, 12) << 32 |
+                key.high >> 32;
+    return next;
+}
+
+void plain_gift_encipher(const uint8_t key[16], uint8_t block[16])
+{
+    struct halves k = {load(key), load(key + 8)};
+    struct halves state = {load(block), load(block + 8)};
+    unsigned constant = 0;
+    for (int round = 0; round < 40; round++) {
+        unsigned low_bit = ((constant >> 5) ^ (constant >> 4) ^ 1) & 1;
+        constant = (constant << 1 & 0x3f) | low_bit;
+        uint32_t u = (uint32_t)k.high;
+        uint32_t v = (uint32_t)k.low;
+        state.low = substitute(state.low);
+        state.high = substitute(state.high);
+        state = move_bits(state);
+        state.low ^= spread(u, v) ^ spread_constant(constant);
+        state.high ^= spread(u >> 16, v >> 16) ^ (uint64_t)1 << 63;
+        k = step_key(k);
+    }
+    store(block, state.low);
+    store(block + 8, state.high);
+}

@@ -1,0 +1,49 @@
+//! The second implementation as a program; its first argument is a command.
+
+use std::io::{self, Read, Write};
+use std::process::ExitCode;
+
+use second::gift_cases;
+
+const USAGE: &str = "usage: second gift-cases | second gift-answers <CASES";
+
+fn read_all() -> io::Result<Vec<u8>> {
+    let mut input = Vec::new();
+    io::stdin().lock().read_to_end(&mut input)?;
+    Ok(input)
+}
+
+/// Runs `command` and gives what it writes; nothing if there is no such
+/// command.
+fn run(command: &str) -> io::Result<Option<String>> {
+    Ok(match command {
+        "gift-cases" => Some(gift_cases::cases()),
+        "gift-answers" => Some(gift_cases::answers(&read_all()?)),
+        _ => None,
+    })
+}
+
+fn write_all(output: &str) -> io::Result<()> {
+    let mut out = io::stdout().lock();
+    out.write_all(output.as_bytes())?;
+    out.flush()
+}
+
+fn main() -> ExitCode {
+    let arguments: Vec<_> = std::env::args_os().skip(1).collect();
+    let command = match &arguments[..] {
+        [command] => command.to_str().unwrap_or(""),
+        _ => "",
+    };
+    let outcome = run(command).and_then(|output| match output {
+        Some(output) => write_all(&output).map(|()| ExitCode::SUCCESS),
+        None => {
+            eprintln!("{USAGE}");
+            Ok(ExitCode::from(2))
+        }
+    });
+    outcome.unwrap_or_else(|error| {
+        eprintln!("second: {error}");
+        ExitCode::FAILURE
+    })
+}

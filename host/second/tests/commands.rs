@@ -1,0 +1,48 @@
+//! The program `second` as its callers see it.
+
+use std::io::Write;
+use std::process::{Command, Output, Stdio};
+
+fn second(arguments: &[&str], input: &[u8]) -> Output {
+    let mut child = Command::new(env!("CARGO_BIN_EXE_second"))
+        .args(arguments)
+        .stdin(Stdio::piped())
+        .stdout(Stdio::piped())
+        .stderr(Stdio::piped())
+        .spawn()
+        .expect("the program starts");
+    let mut pipe = child.stdin.take().expect("a pipe was asked for");
+    // A program that refuses its arguments may end before it reads.
+    let _ = pipe.write_all(input);
+    drop(pipe);
+    child.wait_with_output().expect("the program ends")
+}
+
+#[test]
+fn cases_are_the_same_each_time_and_answered_line_by_line() {
+    let cases = second(&["gift-cases"], b"");
+    assert!(cases.status.success());
+    assert_eq!(cases.stdout, second(&["gift-cases"], b"").stdout);
+    let answers = second(&["gift-answers"], &cases.stdout);
+    assert!(answers.status.success());
+    let ends = |text: &[u8]| text.iter().filter(|&&c| c == b'\n').count();
+    assert_eq!(ends(&answers.stdout), ends(&cases.stdout));
+    assert_eq!(answers.stdout.last(), Some(&b'\n'));
+}
+
+#[test]
+fn anything_else_gives_a_usage_line_and_status_2() {
+    let wrong: [&[&str]; 5] = [
+        &[],
+        &[""],
+        &["gift"],
+        &["gift-cases", "more"],
+        &["--gift-cases"],
+    ];
+    for arguments in wrong {
+        let output = second(arguments, b"");
+        assert_eq!(output.status.code(), Some(2), "{arguments:?}");
+        assert!(output.stdout.is_empty());
+        assert!(output.stderr.starts_with(b"usage: second "));
+    }
+}
