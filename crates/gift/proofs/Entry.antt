@@ -2,20 +2,18 @@
 -- Assumes nothing.
 use mathlib.Core.Path.{_≡_, refl, sym, ap, ap₂, _∙_, subst⁻¹}
 use mathlib.Core.Bool.{Bool, true, false, not}
-use mathlib.Core.List.{List, [], _∷_}
+use mathlib.Core.List.{List}
 use Prim.Native.Nat.{ℕ, _^_, _<_}
 use native.Nat.{ℕᴺ-discrete}
 use borrow.Author.Tests.{eq-eqb, ne-eqb}
-use lib.ListN.{length, getD}
+use lib.ListN.{length}
 use Rattle.words.specs.declared.Block.{Block}
 use Rattle.words.specs.Block.{value, halves, loaded, stored}
 use Rattle.words.specs.Bytes.{Bytes, number, bytes}
-use Rattle.words.specs.Digits.{tab}
-use Rattle.words.specs.Refuse.{Answer, answered}
+use Rattle.words.specs.Refuse.{answered}
 use Rattle.words.proofs.Blocks.{value-halves, value-is, loaded-all, stored-all}
 use Rattle.words.proofs.Bytes.{length-bytes, number-bytes, bytes-number, number-lt}
 use Rattle.words.proofs.Lists.{tab-at}
-use Rattle.words.proofs.Refusals.{same, same-answer}
 use Rattle.gift.specs.declared.Additions.{Additions}
 use Rattle.gift.specs.Gift.{added, forty, cipher, encipher, decipher}
 use Rattle.gift.specs.Entry.{additions, addition, enciphers, deciphers, crypting, enciphering, deciphering}

@@ -1,11 +1,11 @@
 -- Fields of a block: what stands at a place of its number, read and added in its halves.
 -- Assumes nothing.
-use mathlib.Core.Path.{_≡_, refl, sym, ap, _∙_, subst}
+use mathlib.Core.Path.{_≡_, sym, ap, _∙_, subst}
 use Prim.Native.Nat.{ℕ, zero, _+_, _-_, _*_, _/_, _%_, _^_, _≤_, _<_}
-use native.Mathlib.Nat.{lt-of-lt-of-le, mod-eq-of-lt, mul-add-div-right, mul-add-mod-self-right, mul-assoc, zero-add, add-zero}
+use native.Mathlib.Nat.{lt-of-lt-of-le, mod-eq-of-lt, mul-add-div-right, mul-add-mod-self-right, mul-assoc, one-mul, zero-add, add-zero}
 use native.Mathlib.Omega.{arith}
 use lib.Bits.{bitXor, xor-block, xor-zero-r, xor-lt}
-use lib.Pow.{pow-mono, pow-pos, pow-add, shl-lt, shr-shr, high}
+use lib.Pow.{pow-lt, pow-mono, pow-pos, pow-add, shl-lt, shr-shr, high}
 use Rattle.words.specs.declared.Block.{Block}
 use Rattle.words.specs.Block.{value, halves}
 use Rattle.words.proofs.Blocks.{whole}
@@ -34,6 +34,10 @@ from-high b s t h e =
 
 pub field-high : (b : Block) (s t w : ℕ) → b .lo < 2 ^ 64 → s ≡ 64 + t → b .hi / 2 ^ t % 2 ^ w ≡ value b / 2 ^ s % 2 ^ w
 field-high b s t w h e = ap (λ (x : ℕ). x % 2 ^ w) (from-high b s t h e)
+
+-- the code's modulus
+pub one-shl : (w : ℕ) → w < 64 → 1 * 2 ^ w % 2 ^ 64 ≡ 2 ^ w
+one-shl w h = ap (λ (x : ℕ). x % 2 ^ 64) (one-mul (2 ^ w)) ∙ mod-eq-of-lt (pow-lt h)
 
 -- ---- added: v at s
 

@@ -1,7 +1,7 @@
 -- The key state in its halves, and what is worked out from it.
 -- Assumes nothing.
 use mathlib.Core.Path.{_≡_, refl, sym, ap, ap₂, subst⁻¹, _∙_}
-use Prim.Native.Nat.{ℕ, zero, suc, _+_, _-_, _*_, _/_, _%_, _^_, _≤_, _<_}
+use Prim.Native.Nat.{ℕ, _+_, _-_, _*_, _/_, _%_, _^_, _≤_, _<_}
 use native.Mathlib.Nat.{div-one, mul-mod-left, add-zero, mod-lt}
 use native.Mathlib.Numerals.{add-one}
 use native.Mathlib.Omega.{arith}
@@ -80,7 +80,7 @@ pub roundConst-next : (r : ℕ) → roundConst (r + 1) ≡ stepConst (roundConst
 unfolding roundConst
 roundConst-next r = ap roundConst (add-one r)
 
-pub keyAt-next : (k r : ℕ) → keyAt k (r + 1) ≡ keyStep (keyAt k r)
+keyAt-next : (k r : ℕ) → keyAt k (r + 1) ≡ keyStep (keyAt k r)
 unfolding keyAt
 keyAt-next k r = ap (keyAt k) (add-one r)
 

@@ -2,10 +2,10 @@
 -- Assumes nothing.
 use mathlib.Core.Path.{_≡_, refl, sym, ap, _∙_}
 use mathlib.Core.Bool.{Bool, true, false, not}
-use Prim.Native.Nat.{ℕ, zero, _+_, _*_, _/_, _%_, _^_, _<_}
+use Prim.Native.Nat.{ℕ, _+_, _*_, _/_, _%_, _^_, _<_}
 use native.Mathlib.Nat.{zero-lt-suc, mod-lt}
 use lib.Dec.{T, ltb, eqb, ltb→lt, eqb→eq}
-use Rattle.words.specs.Digits.{digit, xsum}
+use Rattle.words.specs.Digits.{xsum}
 use Rattle.words.specs.Pick.{pick}
 use Rattle.words.proofs.Sums.{digit-scatter, scatter-lt, digit-ext}
 use Rattle.words.proofs.Tests.{both, both-left, both-right, allBelow, below}

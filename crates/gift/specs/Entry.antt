@@ -1,11 +1,10 @@
 -- What the entry points answer.
 -- Assumes nothing.
-use Prim.Native.Nat.{ℕ, zero}
+use Prim.Native.Nat.{ℕ}
 use mathlib.Core.Bool.{Bool, true, false, not}
 use mathlib.Core.List.{List, [], _∷_}
 use lib.Dec.{eqb}
 use lib.ListN.{length, getD}
-use Rattle.words.specs.declared.Block.{Block}
 use Rattle.words.specs.Block.{value, halves}
 use Rattle.words.specs.Bytes.{number, bytes}
 use Rattle.words.specs.Digits.{tab}

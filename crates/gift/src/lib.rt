@@ -1,13 +1,12 @@
 // GIFT-128, both ways.
 ghost use mathlib.Core.Path.{_≡_};
-ghost use Prim.Native.Nat.{ℕ, _+_, _-_, _*_, _%_, _<_, _≤_, _^_};
+ghost use Prim.Native.Nat.{_+_, _-_, _*_, _/_, _%_, _<_, _≤_, _^_};
 ghost use lib.Bits.{bitXor};
-ghost use lib.ListN.{length};
 ghost use Rattle.words.specs.Block.{value, halves};
 ghost use Rattle.words.specs.Digits.{rotr};
 ghost use Rattle.words.specs.Pick.{pick};
 ghost use Rattle.words.specs.Refuse.{answered};
-ghost use Rattle.gift.specs.Gift.{bit, nibble, sbox, subCells, place, permBits, spread, keyBits, stepConst, constBits, keyStep, round, forty};
+ghost use Rattle.gift.specs.Gift.{sbox, subCells, permBits, spread, keyBits, stepConst, constBits, keyStep, round, forty};
 ghost use Rattle.gift.specs.Entry.{placeTable, additions, addition, enciphers, deciphers, crypting, enciphering, deciphering};
 
 mod places;
@@ -115,7 +114,7 @@ fn sub_cells(back: bool, x: Block) -> Block
     let mut acc = Block { lo: 0, hi: 0 };
     let mut j: u64 = 0;
     while j < 32 {
-        acc = put(acc, 4 * j, sbox_of(back, nibble_of(x, j)));
+        acc = put(acc, 4 * j, sbox_of(back, bits_at(x, 4 * j, 4)));
         j += 1;
     }
     acc
@@ -147,7 +146,7 @@ fn perm_bits(back: bool, x: Block, places: &[u8; 128]) -> Block
         let p = words::wide(places[i]);
         let from = either(back, p, i as u64);
         let to = either(back, i as u64, p);
-        acc = put(acc, to, bit_of(x, from));
+        acc = put(acc, to, bits_at(x, from, 1));
         i += 1;
     }
     acc
@@ -232,24 +231,15 @@ fn put(b: Block, s: u64, v: u64) -> Block
     }
 }
 
-fn bit_of(b: Block, i: u64) -> u64
-    requires { ⌜ i < 128 ⌝ }
-    ensures { λ r. ⌜ r ≡ bit i (value b) ⌝ }
+// w bits of b from s on; they do not reach over the middle.
+fn bits_at(b: Block, s: u64, w: u64) -> u64
+    requires { ⌜ (s < 128) × (s % 64 + w ≤ 64) × (w < 64) ⌝ }
+    ensures { λ r. ⌜ r ≡ value b / 2 ^ s % 2 ^ w ⌝ }
 {
-    if i < 64 {
-        (b.lo >> i) % 2
+    let m: u64 = 1 << w;
+    if s < 64 {
+        (b.lo >> s) % m
     } else {
-        (b.hi >> (i - 64)) % 2
-    }
-}
-
-fn nibble_of(b: Block, j: u64) -> u64
-    requires { ⌜ j < 32 ⌝ }
-    ensures { λ r. ⌜ r ≡ nibble j (value b) ⌝ }
-{
-    if j < 16 {
-        (b.lo >> (4 * j)) % 16
-    } else {
-        (b.hi >> (4 * (j - 16))) % 16
+        (b.hi >> (s - 64)) % m
     }
 }

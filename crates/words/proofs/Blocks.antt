@@ -1,13 +1,13 @@
 -- A block and its number, each undoing the other; exclusive or of blocks; a block of sixteen bytes.
 -- Assumes nothing.
-use mathlib.Core.Path.{_≡_, refl, sym, ap, ap₂, _∙_, subst}
+use mathlib.Core.Path.{_≡_, sym, ap, ap₂, _∙_, subst}
 use mathlib.Core.List.{List, _++_, append-nil}
 use Prim.Native.Nat.{ℕ, _+_, _-_, _*_, _^_, _≤_, _<_, min}
 use native.Mathlib.Nat.{zero-add}
 use native.Mathlib.Omega.{arith}
 use lib.Arith.{digits-lt}
 use lib.Bits.{bitXor, xor-block}
-use lib.ListN.{length, getD, take, drop, length-take, length-drop, replicate, drop-of-length-le}
+use lib.ListN.{length, take, drop, length-take, length-drop, drop-of-length-le}
 use lib.Pow.{split, high, low}
 use lib.Seq.{drop-drop, sets, sets-eq, take-all, take-append-le, take-append-add}
 use Rattle.words.specs.declared.Block.{Block}

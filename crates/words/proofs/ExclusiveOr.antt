@@ -5,7 +5,7 @@ use Prim.Native.Nat.{ℕ, zero, suc, _+_, _*_, _/_, _%_, _<_}
 use native.Mathlib.Nat.{mod-lt, zero-lt-suc}
 use native.Mathlib.Omega.{arith}
 use lib.Arith.{bin-ind}
-use lib.Bits.{bitXor, differ, xor-step, xor-shr, xor-mod, xor-self, xor-comm, xor-zero-r}
+use lib.Bits.{bitXor, differ, xor-step, xor-shr, xor-mod, xor-self, xor-zero-r}
 
 bit-xor : (y z : ℕ) → y < 2 → z < 2 → differ y z ≡ bitXor y z
 bit-xor zero z hy hz = refl

@@ -3,7 +3,7 @@
 -- Assumes nothing.
 use mathlib.Core.Path.{_≡_, refl, sym, ap, ap₂, _∙_, subst, subst⁻¹}
 use mathlib.Core.Logic.{_≢_, ⊎-elim}
-use Prim.Native.Nat.{ℕ, zero, suc, _+_, _*_, _/_, _%_, _^_, _≤_, _<_, suc-le-suc}
+use Prim.Native.Nat.{ℕ, zero, suc, _+_, _*_, _/_, _%_, _^_, _<_, suc-le-suc}
 use native.Mathlib.Nat.{not-suc-le-zero, le-of-suc-le-suc, le-refl, le-step, lt-of-lt-of-le, eq-or-lt-of-le, zero-lt-suc, pow-zero, pow-suc, mul-zero, mul-suc, zero-div, zero-mod, div-one, mod-eq-of-lt, div-eq-of-lt, mul-lt-mul-of-pos-right, mul-assoc, mul-mod-left, mul-div-cancel, div-div-eq-div-mul, div-add-mod', div-lt-iff-lt-mul, one-le-pow, pow-le-pow-right, pow-succ', le-dest, lt-irrefl}
 use native.Mathlib.Decide.{decLe}
 use native.Mathlib.Numerals.{add-one}

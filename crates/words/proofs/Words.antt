@@ -1,11 +1,11 @@
 -- A word of eight bytes, gathered from its highest byte down.
 -- Assumes nothing.
-use mathlib.Core.Path.{_≡_, refl, sym, ap, _∙_}
+use mathlib.Core.Path.{_≡_, sym, ap, _∙_}
 use mathlib.Core.List.{List, []}
 use Prim.Native.Nat.{ℕ, suc, _+_, _-_, _*_, _^_, _≤_, _<_}
 use native.Mathlib.Nat.{lt-of-lt-of-le, pow-le-pow-right}
 use native.Mathlib.Omega.{arith}
-use lib.ListN.{length, getD, take, drop, length-take, length-drop, drop-of-length-le}
+use lib.ListN.{length, getD, drop, length-take, length-drop, drop-of-length-le}
 use lib.Seq.{getD-take, getD-drop}
 use Rattle.words.specs.Block.{part}
 use Rattle.words.specs.Bytes.{Bytes, number, filled}

@@ -2,7 +2,7 @@
 // faults: what lies past the end of a slice reads as 0 and is not written.
 ghost use mathlib.Core.Path.{_≡_};
 ghost use mathlib.Core.List.{[]};
-ghost use Prim.Native.Nat.{ℕ, _+_, _-_, _≤_, _<_, min};
+ghost use Prim.Native.Nat.{_+_, _-_, _≤_, _<_, min};
 ghost use lib.Bits.{bitXor};
 ghost use lib.ListN.{length};
 ghost use lib.Seq.{sets};

@@ -1,8 +1,7 @@
-use Prim.Native.Nat.{ℕ, _+_, _-_, _*_, _^_, _≤_, _<_}
-use mathlib.Core.Path.{_≡_, refl, sym, ap, ap₂, _∙_}
+use Prim.Native.Nat.{ℕ, _-_, _*_, _^_, _≤_, _<_}
+use mathlib.Core.Path.{_≡_, refl, ap, ap₂, _∙_}
 use native.Mathlib.Omega.{arith}
 use lib.ListN.{getD}
-use denote.Ref.{now}
 use Rattle.words.specs.Block.{value, halves}
 use Rattle.words.specs.Digits.{xsum}
 use Rattle.words.specs.Pick.{pick}
@@ -53,10 +52,11 @@ to : (c : tie.After-either2 Inv-loop μ-loop) →
     c .either2 .result ≡ pick (l .before .args .back) (l .loop .i) (place (l .loop .i))
 to c = let l = c .before .before .before .before .before in c .either2 .ensures ∙ ap (λ (p : ℕ). pick (l .before .args .back) (l .loop .i) p) (moves (c .before .before))
 
-bit-of-requires : tie.Need-bit-of-requires Inv-loop μ-loop
-bit-of-requires c κs =
+bits-at-requires : tie.Need-bits-at-requires Inv-loop μ-loop
+bits-at-requires c κs =
     let l = c .before .before .before .before .before in
-    rw (from (c .before)) (from-lt (l .before .args .back) (l .loop .i) (omega arith))
+    let h : c .before .either .result < 128 = rw (from (c .before)) (from-lt (l .before .args .back) (l .loop .i) (omega arith)) in
+    (h, omega arith, omega arith)
 
 put-requires : tie.Need-put-requires Inv-loop μ-loop
 put-requires c κs =
@@ -76,7 +76,7 @@ loop-again c =
     let a = l .before .args in (
       omega arith,
       sum-turn (λ k. bit (pick (a .back) (place k) k) (value (a .x)) * 2 ^ pick (a .back) k (place k)) (l .loop .i) (l .loop .inv .1) (c .put .ensures)
-          (ap₂ (λ (v p : ℕ). v * 2 ^ p) (c .before .bit-of .ensures ∙ ap (λ (i : ℕ). bit i (value (a .x))) (from (d .before))) (to d)),
+          (ap₂ (λ (v p : ℕ). v * 2 ^ p) (c .before .bits-at .ensures ∙ ap (λ (i : ℕ). bit i (value (a .x))) (from (d .before))) (to d)),
     )
 
 returns : tie.Need-returns Inv-loop μ-loop
@@ -97,7 +97,7 @@ perm-bits-spec =
     wide-requires
     either-requires
     either-requires-2
-    bit-of-requires
+    bits-at-requires
     put-requires
     add-i
     loop-less

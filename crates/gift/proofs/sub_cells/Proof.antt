@@ -1,4 +1,4 @@
-use Prim.Native.Nat.{ℕ, _+_, _-_, _*_, _^_, _≤_, _<_}
+use Prim.Native.Nat.{ℕ, _-_, _*_, _/_, _%_, _^_, _≤_}
 use mathlib.Core.Path.{_≡_, refl, sym, ap, ap₂, _∙_}
 use native.Mathlib.Omega.{arith}
 use Rattle.words.specs.Block.{value, halves}
@@ -23,8 +23,11 @@ loop-holds c = (omega arith, refl)
 mul-put : tie.Need-mul-put Inv-loop μ-loop
 mul-put c = omega arith
 
-nibble-of-requires : tie.Need-nibble-of-requires Inv-loop μ-loop
-nibble-of-requires c κs = omega arith
+mul-bits-at : tie.Need-mul-bits-at Inv-loop μ-loop
+mul-bits-at c = omega arith
+
+bits-at-requires : tie.Need-bits-at-requires Inv-loop μ-loop
+bits-at-requires c κs = omega arith
 
 sbox-of-requires : tie.Need-sbox-of-requires Inv-loop μ-loop
 sbox-of-requires c κs = omega arith
@@ -45,7 +48,7 @@ loop-again c =
     let a = d .before .args in (
       omega arith,
       sum-turn (λ k. sbox (a .back) (nibble k (value (a .x))) * 16 ^ k) (l .j) (l .inv .1) (c .put .ensures)
-          (ap₂ (λ (v p : ℕ). v * p) (c .before .sbox-of .ensures .0 ∙ ap (sbox (a .back)) (c .before .before .nibble-of .ensures)) (sym (pow-pow 4 (l .j)))),
+          (ap₂ (λ (v p : ℕ). v * p) (c .before .sbox-of .ensures .0 ∙ ap (sbox (a .back)) (c .before .before .bits-at .ensures ∙ ap (λ (p : ℕ). value (a .x) / p % 16) (sym (pow-pow 4 (l .j))))) (sym (pow-pow 4 (l .j)))),
     )
 
 returns : tie.Need-returns Inv-loop μ-loop
@@ -63,7 +66,8 @@ sub-cells-spec =
     μ-loop
     loop-holds
     mul-put
-    nibble-of-requires
+    mul-bits-at
+    bits-at-requires
     sbox-of-requires
     put-requires
     add-j

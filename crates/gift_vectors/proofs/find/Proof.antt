@@ -1,6 +1,4 @@
-use Prim.Native.Nat.{ℕ, _+_, _-_, _*_, _/_, _≤_, _<_}
-use native.Mathlib.Omega.{arith}
-use lib.ListN.{length}
+use Prim.Native.Nat.{_-_, _≤_}
 use borrow.Author.Needs.{needs}
 use Rattle.gift_vectors.proofs.find.Statement.{statement}
 use Rattle.gift_vectors.proofs.find.Tie as tie

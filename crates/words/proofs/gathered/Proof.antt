@@ -3,7 +3,6 @@ use mathlib.Core.Path.{sym, ap, ap₂, _∙_}
 use native.Mathlib.Omega.{arith}
 use denote.Ref.{now}
 use borrow.Author.Needs.{needs}
-use Rattle.words.specs.declared.Block.{Block}
 use Rattle.words.proofs.Blocks.{short, long}
 use Rattle.words.proofs.gathered.Statement.{statement}
 use Rattle.words.proofs.gathered.Tie as tie
