@@ -18,6 +18,7 @@ placeTable = tab place 0 128
 
 -- ---- with the additions of all rounds worked out
 
+-- those of the key k
 unfoldable pub additions : ℕ → Additions
 additions k = record { rounds = tab (λ r. halves (added k r)) 0 40 }
 
@@ -25,6 +26,7 @@ additions k = record { rounds = tab (λ r. halves (added k r)) 0 40 }
 unfoldable pub addition : Additions → ℕ → ℕ
 addition a r = value (getD (a .rounds) r (halves 0))
 
+-- forty rounds that add them, each way
 unfoldable pub enciphers : Additions → ℕ → ℕ
 enciphers a x = forty false (addition a) x
 

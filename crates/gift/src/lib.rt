@@ -32,6 +32,7 @@ pub fn decipher(key: &[u8], block: &mut [u8]) -> u32
     crypt(true, key, block)
 }
 
+// What each round adds under key, in its steps 3 and 4.
 pub fn additions_of(key: Block) -> Additions
     ensures { λ r. ⌜ r ≡ additions (value key) ⌝ }
 {
@@ -48,18 +49,21 @@ pub fn additions_of(key: Block) -> Additions
     Additions { rounds: out }
 }
 
+// x through forty rounds that add what a holds.
 pub fn encipher_block(a: Additions, x: Block) -> Block
     ensures { λ r. ⌜ r ≡ halves (enciphers a (value x)) ⌝ }
 {
     forty_rounds(false, a, x)
 }
 
+// The same rounds undone.
 pub fn decipher_block(a: Additions, x: Block) -> Block
     ensures { λ r. ⌜ r ≡ halves (deciphers a (value x)) ⌝ }
 {
     forty_rounds(true, a, x)
 }
 
+// Both entry points; back tells which.
 fn crypt(back: bool, key: &[u8], block: &mut [u8]) -> u32
     ensures { λ r. ⌜ answered r (now (block .exit)) ≡ crypting back (now (key .entry)) (now (block .entry)) ⌝ }
 {
@@ -98,6 +102,7 @@ fn turn(back: bool, r: usize) -> usize
     if back { 39 - r } else { r }
 }
 
+// A round that adds a, or that round undone.
 fn round_of(back: bool, a: Block, x: Block, places: &[u8; 128]) -> Block
     requires { ⌜ now places ≡ placeTable ⌝ }
     ensures { λ r. ⌜ r ≡ halves (round back (value a) (value x)) ⌝ }
@@ -108,6 +113,7 @@ fn round_of(back: bool, a: Block, x: Block, places: &[u8; 128]) -> Block
     words::xor(perm_bits(back, sub_cells(back, x), places), a)
 }
 
+// Step 1, or undone.
 fn sub_cells(back: bool, x: Block) -> Block
     ensures { λ r. ⌜ r ≡ halves (subCells back (value x)) ⌝ }
 {
@@ -136,6 +142,7 @@ fn sbox_of(back: bool, n: u64) -> u64
     }
 }
 
+// Step 2, or undone: bit i to its place, or from there.
 fn perm_bits(back: bool, x: Block, places: &[u8; 128]) -> Block
     requires { ⌜ now places ≡ placeTable ⌝ }
     ensures { λ r. ⌜ r ≡ halves (permBits back (value x)) ⌝ }
@@ -158,6 +165,7 @@ fn either(first: bool, a: u64, b: u64) -> u64
     if first { a } else { b }
 }
 
+// Step 3.
 fn key_bits(k: Block) -> Block
     ensures { λ r. ⌜ r ≡ halves (keyBits (value k)) ⌝ }
 {
@@ -174,6 +182,7 @@ fn step_const(c: u64) -> u64
     c * 2 % 64 + (c / 32 % 2 + c / 16 % 2 + 1) % 2
 }
 
+// Step 4.
 fn const_bits(c: u64) -> Block
     ensures { λ r. ⌜ r ≡ halves (constBits c) ⌝ }
 {
@@ -194,6 +203,7 @@ fn spread_of(o: u64, n: u64, u: u64) -> Block
     acc
 }
 
+// Step 5.
 fn key_step(k: Block) -> Block
     ensures { λ r. ⌜ r ≡ halves (keyStep (value k)) ⌝ }
 {

@@ -22,6 +22,7 @@ pub fn wide(x: u8) -> u64
     x as u64
 }
 
+// Exclusive or.
 pub fn xor(a: Block, b: Block) -> Block
     ensures { λ r. ⌜ r ≡ halves (bitXor (value a) (value b)) ⌝ }
 {
