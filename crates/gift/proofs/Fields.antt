@@ -45,24 +45,34 @@ one-shl w h = ap (λ (x : ℕ). x % 2 ^ 64) (one-mul (2 ^ w)) ∙ mod-eq-of-lt (
 pub put-fits : (v w s : ℕ) → v < 2 ^ w → w + s % 64 ≤ 64 → v * 2 ^ (s % 64) < 2 ^ 64
 put-fits v w s h l = lt-of-lt-of-le (shl-lt w (s % 64) h) (pow-mono l)
 
+-- t added to the low half, to the high half
+add-low : (hi lo t : ℕ) → lo < 2 ^ 64 → t < 2 ^ 64 → hi * 2 ^ 64 + bitXor lo t ≡ bitXor (hi * 2 ^ 64 + lo) t
+add-low hi lo t hl ht =
+    sym (ap (bitXor (hi * 2 ^ 64 + lo)) (sym (zero-add t)) ∙ xor-block 64 hi zero lo t hl ht ∙ ap (λ (x : ℕ). x * 2 ^ 64 + bitXor lo t) (xor-zero-r hi))
+
+add-high : (hi lo t : ℕ) → lo < 2 ^ 64 → bitXor hi t * 2 ^ 64 + lo ≡ bitXor (hi * 2 ^ 64 + lo) (t * 2 ^ 64)
+add-high hi lo t hl =
+    sym (ap (bitXor (hi * 2 ^ 64 + lo)) (sym (add-zero (t * 2 ^ 64))) ∙ xor-block 64 hi t lo zero hl (pow-pos 64)
+    ∙ ap (λ (x : ℕ). bitXor hi t * 2 ^ 64 + x) (xor-zero-r lo))
+
+-- v shifted in two parts
+shl-two : (v i j : ℕ) → v * 2 ^ i * 2 ^ j ≡ v * 2 ^ (i + j)
+shl-two v i j = mul-assoc v (2 ^ i) (2 ^ j) ∙ ap (λ (x : ℕ). v * x) (sym (pow-add 2 i j))
+
 module _ (b : Block) (s v : ℕ) (small : b .lo < 2 ^ 64) (fits : v * 2 ^ (s % 64) < 2 ^ 64) where
   pub put-low : s < 64 → record { lo = bitXor (b .lo) (v * 2 ^ s % 2 ^ 64); hi = b .hi } ≡ halves (bitXor (value b) (v * 2 ^ s))
   unfolding value
   put-low h =
       let t : v * 2 ^ s < 2 ^ 64 = subst (λ (x : ℕ). v * 2 ^ x < 2 ^ 64) (mod-eq-of-lt h) fits in
       ap (λ (x : ℕ). record { lo = bitXor (b .lo) x; hi = b .hi }) (mod-eq-of-lt t)
-      ∙ whole (record { lo = bitXor (b .lo) (v * 2 ^ s); hi = b .hi }) (xor-lt 64 (b .lo) (v * 2 ^ s) small t)
-      (sym (ap (bitXor (b .hi * 2 ^ 64 + b .lo)) (sym (zero-add (v * 2 ^ s))) ∙ xor-block 64 (b .hi) zero (b .lo) (v * 2 ^ s) small t
-      ∙ ap (λ (x : ℕ). x * 2 ^ 64 + bitXor (b .lo) (v * 2 ^ s)) (xor-zero-r (b .hi))))
+      ∙ whole (record { lo = bitXor (b .lo) (v * 2 ^ s); hi = b .hi }) (xor-lt 64 (b .lo) (v * 2 ^ s) small t) (add-low (b .hi) (b .lo) (v * 2 ^ s) small t)
 
   pub put-high : 64 ≤ s → s < 128 → record { lo = b .lo; hi = bitXor (b .hi) (v * 2 ^ (s - 64) % 2 ^ 64) } ≡ halves (bitXor (value b) (v * 2 ^ s))
   unfolding value
   put-high h k =
       let m : s % 64 ≡ s - 64 = omega arith in
-      let e : (s - 64) + 64 ≡ s = omega arith in
-      let t = v * 2 ^ (s - 64) in
-      let p : t * 2 ^ 64 ≡ v * 2 ^ s = mul-assoc v (2 ^ (s - 64)) (2 ^ 64) ∙ ap (λ (x : ℕ). v * x) (sym (pow-add 2 (s - 64) 64) ∙ ap (λ (x : ℕ). 2 ^ x) e) in
+      let e : s - 64 + 64 ≡ s = omega arith in
       ap (λ (x : ℕ). record { lo = b .lo; hi = bitXor (b .hi) x }) (mod-eq-of-lt (subst (λ (x : ℕ). v * 2 ^ x < 2 ^ 64) m fits))
-      ∙ whole (record { lo = b .lo; hi = bitXor (b .hi) t }) small
-      (sym (ap (bitXor (b .hi * 2 ^ 64 + b .lo)) (sym p ∙ sym (add-zero (t * 2 ^ 64))) ∙ xor-block 64 (b .hi) t (b .lo) zero small (pow-pos 64)
-      ∙ ap (λ (x : ℕ). bitXor (b .hi) t * 2 ^ 64 + x) (xor-zero-r (b .lo))))
+      ∙ whole (record { lo = b .lo; hi = bitXor (b .hi) (v * 2 ^ (s - 64)) }) small
+      (add-high (b .hi) (b .lo) (v * 2 ^ (s - 64)) small
+      ∙ ap (bitXor (b .hi * 2 ^ 64 + b .lo)) (shl-two v (s - 64) 64 ∙ ap (λ (x : ℕ). v * 2 ^ x) e))
