@@ -1,6 +1,6 @@
--- The entry points: what their steps leave, that one result is allowed, and that they undo each other on every input.
+-- The entry points: what their steps leave, and that they undo each other on every input.
 -- Assumes nothing.
-use mathlib.Core.Path.{_≡_, refl, sym, ap, ap₂, _∙_, subst⁻¹}
+use mathlib.Core.Path.{_≡_, sym, ap, ap₂, _∙_, subst}
 use mathlib.Core.Bool.{Bool, true, false, not}
 use mathlib.Core.List.{List}
 use Prim.Native.Nat.{ℕ, _^_, _<_}
@@ -73,7 +73,7 @@ module _ (back : Bool) (key block : List ℕ) (are : Bytes block) where
       let k = number key in
       let x = number block in
       let y = cipher back k x in
-      let hx : x < 2 ^ 128 = subst⁻¹ (λ (n : ℕ). x < n) refl (subst⁻¹ (λ (n : ℕ). x < 256 ^ n) (sym hb) (number-lt block are)) in
+      let hx : x < 2 ^ 128 = subst (λ (n : ℕ). x < 256 ^ n) hb (number-lt block are) in
       ap (λ r. crypting (not back) key (r .left) .left) (sym (done back key block hk hb))
       ∙ ap (λ r. r .left) (sym (done (not back) key (bytes 16 y) hk (length-bytes 16 y)))
       ∙ ap (λ (z : ℕ). bytes 16 (cipher (not back) k z)) (number-bytes 16 y (cipher-lt back k x hx))

@@ -1,6 +1,6 @@
 -- Fields of a block: what stands at a place of its number, read and added in its halves.
 -- Assumes nothing.
-use mathlib.Core.Path.{_≡_, sym, ap, _∙_, subst}
+use mathlib.Core.Path.{_≡_, sym, ap, _∙_, subst, subst⁻¹}
 use Prim.Native.Nat.{ℕ, zero, _+_, _-_, _*_, _/_, _%_, _^_, _≤_, _<_}
 use native.Mathlib.Nat.{lt-of-lt-of-le, mod-eq-of-lt, mul-add-div-right, mul-add-mod-self-right, mul-assoc, one-mul, zero-add, add-zero}
 use native.Mathlib.Omega.{arith}
@@ -38,6 +38,9 @@ field-high b s t w h e = ap (λ (x : ℕ). x % 2 ^ w) (from-high b s t h e)
 -- the code's modulus
 pub one-shl : (w : ℕ) → w < 64 → 1 * 2 ^ w % 2 ^ 64 ≡ 2 ^ w
 one-shl w h = ap (λ (x : ℕ). x % 2 ^ 64) (one-mul (2 ^ w)) ∙ mod-eq-of-lt (pow-lt h)
+
+pub one-shl-pos : (w : ℕ) → w < 64 → 0 < 1 * 2 ^ w % 2 ^ 64
+one-shl-pos w h = subst⁻¹ (λ (m : ℕ). 0 < m) (one-shl w h) (pow-pos w)
 
 -- ---- added: v at s
 

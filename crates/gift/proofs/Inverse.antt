@@ -11,6 +11,7 @@ use lib.Dec.{lit<, lit≤}
 use Rattle.words.specs.Pick.{pick}
 use Rattle.words.proofs.ExclusiveOr.{xor-undo}
 use Rattle.words.proofs.Sums.{scatter-lt}
+use Rattle.words.proofs.Tests.{pick-lt}
 use Rattle.gift.specs.Gift.{bit, subCells, permBits, spread, keyBits, constBits, keyU, keyV, keyAt, roundConst, added, round, rounds, forty, cipher, encipher, decipher}
 use Rattle.gift.proofs.Steps.{subCells-lt, subCells-undone, permBits-lt, permBits-undone}
 
@@ -92,10 +93,6 @@ rounds-undone back a (suc n) x small h =
 
 -- ---- forty
 
-turned-lt : (back : Bool) (r : ℕ) → r < 40 → pick back (39 - r) r < 40
-turned-lt false r h = h
-turned-lt true r h = omega arith
-
 turned-twice : (back : Bool) (r : ℕ) → r < 40 → pick (not back) (39 - r) r ≡ pick back (39 - (40 - suc r)) (40 - suc r)
 turned-twice false r h = omega arith
 turned-twice true r h = omega arith
@@ -103,7 +100,7 @@ turned-twice true r h = omega arith
 pub forty-same : (back : Bool) (a b : ℕ → ℕ) (x : ℕ) → ((r : ℕ) → r < 40 → a r ≡ b r) → forty back a x ≡ forty back b x
 unfolding forty
 forty-same back a b x h =
-    rounds-same back (λ r. a (pick back (39 - r) r)) (λ r. b (pick back (39 - r) r)) 40 x (λ r l. h (pick back (39 - r) r) (turned-lt back r l))
+    rounds-same back (λ r. a (pick back (39 - r) r)) (λ r. b (pick back (39 - r) r)) 40 x (λ r l. let e : 39 - r < 40 = omega arith in h (pick back (39 - r) r) (pick-lt back e l))
 
 module _ (back : Bool) (a : ℕ → ℕ) (x : ℕ) (small : (r : ℕ) → a r < 2 ^ 128) (h : x < 2 ^ 128) where
   forty-lt : forty back a x < 2 ^ 128

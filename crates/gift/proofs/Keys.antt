@@ -2,17 +2,17 @@
 -- Assumes nothing.
 use mathlib.Core.Path.{_≡_, refl, sym, ap, ap₂, subst⁻¹, _∙_}
 use Prim.Native.Nat.{ℕ, _+_, _-_, _*_, _/_, _%_, _^_, _≤_, _<_}
-use native.Mathlib.Nat.{div-one, mul-mod-left, add-zero, mod-lt}
+use native.Mathlib.Nat.{div-one}
 use native.Mathlib.Numerals.{add-one}
 use native.Mathlib.Omega.{arith}
-use lib.Arith.{mod-mul, digits-lt}
 use lib.Bits.{bitXor}
 use lib.Dec.{lit≤}
-use lib.Pow.{mod-pow-add, mod-mod-pow, shl-shr, shr-lt, pow-pos, pow-add}
+use lib.Pow.{mod-pow-add, mod-mod-pow}
 use Rattle.words.specs.declared.Block.{Block}
 use Rattle.words.specs.Block.{value, halves}
 use Rattle.words.specs.Digits.{rotr}
 use Rattle.words.proofs.Blocks.{whole, value-is}
+use Rattle.words.proofs.Rotation.{rotr-is, rotr-lt}
 use Rattle.gift.specs.Gift.{word, keyU, keyV, keyBits, stepConst, roundConst, constBits, keyStep, keyAt, added}
 use Rattle.gift.proofs.Fields.{field-low, from-high}
 
@@ -30,27 +30,12 @@ keyV-is k =
 
 -- ---- a rotated word
 
-module _ (w n : ℕ) (h : n ≤ 16) where
-  whole-width : 2 ^ 16 ≡ 2 ^ n * 2 ^ (16 - n)
-  whole-width = let e : n + (16 - n) ≡ 16 = omega arith in ap (λ (i : ℕ). 2 ^ i) (sym e) ∙ pow-add 2 n (16 - n)
-
-  rotr-is : w * 2 ^ (16 - n) % 2 ^ 64 % 2 ^ 16 + w / 2 ^ n ≡ rotr 16 n w
-  unfolding rotr
-  rotr-is =
-      let c = 2 ^ (16 - n) in
-      ap (λ (x : ℕ). x + w / 2 ^ n)
-      (mod-mod-pow (w * c) 48 16 ∙ ap (λ (x : ℕ). w * c % x) whole-width ∙ mod-mul (w * c) (pow-pos n) (pow-pos (16 - n))
-      ∙ ap₂ (λ (x y : ℕ). x % 2 ^ n * c + y) (shl-shr w (16 - n)) (mul-mod-left w c) ∙ add-zero (w % 2 ^ n * c))
-
-  rotr-lt : w < 2 ^ 16 → rotr 16 n w < 2 ^ 16
-  unfolding rotr
-  rotr-lt hw =
-      let e : 16 - n + n ≡ 16 = omega arith in
-      subst⁻¹ (λ (x : ℕ). rotr 16 n w < x) whole-width
-      (digits-lt (mod-lt w (pow-pos n)) (shr-lt (16 - n) n (subst⁻¹ (λ (i : ℕ). w < 2 ^ i) e hw)))
-
-  pub rotated : w < 2 ^ 16 → (w * 2 ^ (16 - n) % 2 ^ 64 % 2 ^ 16 + w / 2 ^ n ≡ rotr 16 n w) × (w * 2 ^ (16 - n) % 2 ^ 64 % 2 ^ 16 + w / 2 ^ n < 2 ^ 16)
-  rotated hw = (rotr-is, subst⁻¹ (λ (x : ℕ). x < 2 ^ 16) rotr-is (rotr-lt hw))
+pub rotated : (w n : ℕ) → n ≤ 16 → w < 2 ^ 16
+    → (w * 2 ^ (16 - n) % 2 ^ 64 % 2 ^ 16 + w / 2 ^ n ≡ rotr 16 n w) × (w * 2 ^ (16 - n) % 2 ^ 64 % 2 ^ 16 + w / 2 ^ n < 2 ^ 16)
+rotated w n h hw =
+    let e : w * 2 ^ (16 - n) % 2 ^ 64 % 2 ^ 16 + w / 2 ^ n ≡ rotr 16 n w =
+    ap (λ (x : ℕ). x + w / 2 ^ n) (mod-mod-pow (w * 2 ^ (16 - n)) 48 16) ∙ rotr-is 16 n w h in
+    (e, subst⁻¹ (λ (x : ℕ). x < 2 ^ 16) e (rotr-lt 16 n w h hw))
 
 -- ---- the step
 

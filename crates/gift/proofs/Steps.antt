@@ -31,8 +31,14 @@ sbox-undoes false = undoes (sbox false) (sbox true) 16 tt
 sbox-undoes true = undoes (sbox true) (sbox false) 16 tt
 
 -- entry n of the S-box is nibble n of p
-pub packed : (back : Bool) (p : ℕ) → T (allBelow (λ n. eqb (p / 2 ^ (4 * n) % 16) (sbox back n)) 16) → (n : ℕ) → n < 16 → p / 2 ^ (4 * n) % 16 ≡ sbox back n
-packed back p t n h = eqb→eq _ _ (below (λ n. eqb (p / 2 ^ (4 * n) % 16) (sbox back n)) 16 t n h)
+abbrev entry : Bool → ℕ → ℕ → Bool
+entry back p n = eqb (p / 2 ^ (4 * n) % 16) (sbox back n)
+
+-- of p on the way back, of q on the way there
+pub packed : (back : Bool) (p q : ℕ) → T (allBelow (entry true p) 16) → T (allBelow (entry false q) 16) → (n : ℕ) → n < 16
+    → pick back p q / 2 ^ (4 * n) % 16 ≡ sbox back n
+packed false p q t u n h = eqb→eq _ _ (below (entry false q) 16 u n h)
+packed true p q t u n h = eqb→eq _ _ (below (entry true p) 16 t n h)
 
 nibble-lt : (j x : ℕ) → nibble j x < 16
 nibble-lt j x = mod-lt (x / 16 ^ j) (zero-lt-suc 15)
@@ -60,37 +66,19 @@ subCells-undone back x h =
 comesFrom : ℕ → ℕ
 comesFrom k = 16 * (k % 32 / 4) + 4 * ((3 * (k / 32) + k % 4) % 4) + k % 4
 
--- p moves the numbers below 128 among themselves
-record Moves (p : ℕ → ℕ) : Type 0 where
-  inside : (i : ℕ) → i < 128 → p i < 128
-  alone : (i j : ℕ) → i < 128 → j < 128 → p i ≡ p j → i ≡ j
-  from : (k : ℕ) → k < 128 → ℕ
-  from-inside : (k : ℕ) (h : k < 128) → from k h < 128
-  reaches : (k : ℕ) (h : k < 128) → p (from k h) ≡ k
-
-stays : Moves (λ i. i)
-stays = record { inside = λ i h. h; alone = λ i j hi hj e. e; from = λ k h. k; from-inside = λ k h. h; reaches = λ k h. refl }
-
-moved : (p q : ℕ → ℕ) → Undoes p q 128 → Undoes q p 128 → Moves p
-moved p q pq qp = record {
-  inside = λ i h. pq i h .0;
-  alone = λ i j hi hj e. sym (pq i hi .1) ∙ ap q e ∙ pq j hj .1;
-  from = λ k h. q k;
-  from-inside = λ k h. qp k h .0;
-  reaches = λ k h. qp k h .1;
-}
-
-place-moves : Moves place
+place-there : Undoes place comesFrom 128
 unfolding place comesFrom
-place-moves = moved place comesFrom (undoes place comesFrom 128 tt) (undoes comesFrom place 128 tt)
+place-there = undoes place comesFrom 128 tt
 
-pub from-lt : (back : Bool) (i : ℕ) → i < 128 → pick back (place i) i < 128
-from-lt false i h = h
-from-lt true i h = place-moves .inside i h
+place-back : Undoes comesFrom place 128
+unfolding place comesFrom
+place-back = undoes comesFrom place 128 tt
 
-pub to-lt : (back : Bool) (i : ℕ) → i < 128 → pick back i (place i) < 128
-to-lt false i h = place-moves .inside i h
-to-lt true i h = h
+stays : Undoes (λ i. i) (λ i. i) 128
+stays i h = (h, refl)
+
+pub place-lt : (i : ℕ) → i < 128 → place i < 128
+place-lt i h = place-there i h .0
 
 -- bit f i of x at t i
 abbrev carried : (ℕ → ℕ) → (ℕ → ℕ) → ℕ → ℕ
@@ -99,28 +87,30 @@ carried f t x = xsum (λ i. bit (f i) x * 2 ^ t i) 128
 bit-lt : (f : ℕ → ℕ) (x i : ℕ) → bit (f i) x < 2
 bit-lt f x i = mod-lt (x / 2 ^ f i) (zero-lt-suc 1)
 
-carried-at : (f t : ℕ → ℕ) → Moves t → (x j : ℕ) → j < 128 → bit (t j) (carried f t x) ≡ bit (f j) x
-carried-at f t m x j l = digit-scatter 1 (λ i. bit (f i) x) t 128 (t j) j (bit-lt f x) l refl (λ i k e. m .alone i j k l e)
+module _ (f t t′ : ℕ → ℕ) (tt′ : Undoes t t′ 128) (x : ℕ) where
+  carried-at : (j : ℕ) → j < 128 → bit (t j) (carried f t x) ≡ bit (f j) x
+  carried-at j l =
+      digit-scatter 1 (λ i. bit (f i) x) t 128 (t j) j (bit-lt f x) l refl (λ i k e. sym (tt′ i k .1) ∙ ap t′ e ∙ tt′ j l .1)
 
-carried-lt : (f t : ℕ → ℕ) → Moves t → (x : ℕ) → carried f t x < 2 ^ 128
-carried-lt f t m x = scatter-lt 1 (λ i. bit (f i) x) t 128 128 (bit-lt f x) (m .inside)
+  carried-lt : carried f t x < 2 ^ 128
+  carried-lt = scatter-lt 1 (λ i. bit (f i) x) t 128 128 (bit-lt f x) (λ i l. tt′ i l .0)
 
-carried-undone : (f t : ℕ → ℕ) → Moves f → Moves t → (x : ℕ) → x < 2 ^ 128 → carried t f (carried f t x) ≡ x
-carried-undone f t mf mt x h =
-    digit-ext 2 128 (carried t f (carried f t x)) x (zero-lt-suc 1) (carried-lt t f mf (carried f t x)) h
+carried-undone : (f f′ t t′ : ℕ → ℕ) → Undoes f f′ 128 → Undoes f′ f 128 → Undoes t t′ 128 → (x : ℕ) → x < 2 ^ 128
+    → carried t f (carried f t x) ≡ x
+carried-undone f f′ t t′ ff′ f′f tt′ x h =
+    digit-ext 2 128 (carried t f (carried f t x)) x (zero-lt-suc 1) (carried-lt t f f′ ff′ (carried f t x)) h
     (λ k l.
-    let j = mf .from k l in
-    ap (λ (i : ℕ). bit i (carried t f (carried f t x))) (sym (mf .reaches k l))
-    ∙ carried-at t f mf (carried f t x) j (mf .from-inside k l)
-    ∙ carried-at f t mt x j (mf .from-inside k l)
-    ∙ ap (λ (i : ℕ). bit i x) (mf .reaches k l))
+    ap (λ (i : ℕ). bit i (carried t f (carried f t x))) (sym (f′f k l .1))
+    ∙ carried-at t f f′ ff′ (carried f t x) (f′ k) (f′f k l .0)
+    ∙ carried-at f t t′ tt′ x (f′ k) (f′f k l .0)
+    ∙ ap (λ (i : ℕ). bit i x) (f′f k l .1))
 
 pub permBits-lt : (back : Bool) (x : ℕ) → permBits back x < 2 ^ 128
 unfolding permBits
-permBits-lt false x = carried-lt (λ i. i) place place-moves x
-permBits-lt true x = carried-lt place (λ i. i) stays x
+permBits-lt false x = carried-lt (λ i. i) place comesFrom place-there x
+permBits-lt true x = carried-lt place (λ i. i) (λ i. i) stays x
 
 pub permBits-undone : (back : Bool) (x : ℕ) → x < 2 ^ 128 → permBits (not back) (permBits back x) ≡ x
 unfolding permBits
-permBits-undone false = carried-undone (λ i. i) place stays place-moves
-permBits-undone true = carried-undone place (λ i. i) place-moves stays
+permBits-undone false = carried-undone (λ i. i) (λ i. i) place comesFrom stays stays place-there
+permBits-undone true = carried-undone place comesFrom (λ i. i) (λ i. i) place-there place-back stays

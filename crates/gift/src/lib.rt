@@ -135,11 +135,7 @@ fn sbox_of(back: bool, n: u64) -> u64
     requires { ⌜ n < 16 ⌝ }
     ensures { λ r. ⌜ (r ≡ sbox back n) × (r < 16) ⌝ }
 {
-    if back {
-        (SBOX_BACK >> (4 * n)) % 16
-    } else {
-        (SBOX >> (4 * n)) % 16
-    }
+    (either(back, SBOX_BACK, SBOX) >> (4 * n)) % 16
 }
 
 // Step 2, or undone: bit i to its place, or from there.

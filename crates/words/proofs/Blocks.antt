@@ -15,7 +15,7 @@ use Rattle.words.specs.Block.{value, halves, part, loaded, stored}
 use Rattle.words.specs.Bytes.{Bytes, number, bytes, filled}
 use Rattle.words.specs.Digits.{xsum}
 use Rattle.words.proofs.Sums.{xsum-next}
-use Rattle.words.proofs.Lists.{drop-take, sets-append, sets-cut}
+use Rattle.words.proofs.Lists.{length-part, drop-take, sets-append, sets-cut}
 use Rattle.words.proofs.Bytes.{bytes-take, bytes-drop, bytes-filled, number-lt, number-split, number-zeros, length-bytes, take-bytes, bytes-append, length-filled, filled-same, filled-full, take-filled, drop-filled, drop-filled-past}
 
 pub value-halves : (x : ℕ) → value (halves x) ≡ x
@@ -71,19 +71,19 @@ module _ (s : List ℕ) (h : Bytes s) (t : ℕ) (small : t < 256) (at n m : ℕ)
       ∙ number-halves (filled t 16 d) (bytes-filled t 16 d small (bytes-take m (drop at s) (bytes-drop at s h))) (length-filled t 16 d)
       ∙ rw (take-filled t 8 16 d (omega arith))
 
-  length-part : length (part s at m) ≡ m
-  length-part = simp (length-take, length-drop) (omega arith)
+  there : length (part s at m) ≡ m
+  there = length-part s at m (omega arith)
 
-  pub short : m < 8 → halves (number (filled t 16 (part s at n))) ≡ record { lo = number (filled t 8 (part s at m)); hi = 0 }
-  short k = halved ∙ rw (drop-filled-past t 8 16 (part s at m) (omega (arith, length-part)), number-zeros 8)
+  pub gathered-short : m < 8 → halves (number (filled t 16 (part s at n))) ≡ record { lo = number (filled t 8 (part s at m)); hi = 0 }
+  gathered-short k = halved ∙ rw (drop-filled-past t 8 16 (part s at m) (omega (arith, there)), number-zeros 8)
 
-  pub long : 8 ≤ m → halves (number (filled t 16 (part s at n)))
+  pub gathered-long : 8 ≤ m → halves (number (filled t 16 (part s at n)))
       ≡ record { lo = number (filled t 8 (part s at 8)); hi = number (filled t 8 (part s (at + 8) (m - 8))) }
-  long k =
+  gathered-long k =
       halved
       ∙ rw (
         filled-same t 8 m 8 (drop at s) (rw length-drop (omega arith)),
-        drop-filled t 8 16 (part s at m) (omega (arith, length-part)),
+        drop-filled t 8 16 (part s at m) (omega (arith, there)),
         drop-take 8 m (drop at s),
         drop-drop,
       )

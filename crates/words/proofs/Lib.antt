@@ -1,6 +1,7 @@
 -- The general laws: each is stated once, here, and cited by the crates above.
 pub mod ExclusiveOr
 pub mod Sums
+pub mod Rotation
 pub mod Tests
 pub mod Lists
 pub mod Bytes

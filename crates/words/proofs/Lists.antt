@@ -8,7 +8,7 @@ use native.Mathlib.Decide.{decLe}
 use native.Mathlib.Nat.{ne-of-lt, eq-or-lt-of-le, zero-add, add-zero, add-suc, suc-add, sub-zero, zero-sub, suc-sub-suc, not-suc-le-zero, le-of-suc-le-suc}
 use native.Mathlib.Numerals.{add-one}
 use native.Mathlib.Omega.{arith}
-use lib.ListN.{length, getD, take, drop, set, replicate, length-set}
+use lib.ListN.{length, getD, take, drop, set, replicate, length-set, length-take, length-drop}
 use lib.Seq.{sets, set-out, take-nil, ext-getD, getD-set-same, getD-set-other}
 use Rattle.words.specs.Digits.{tab}
 
@@ -28,6 +28,10 @@ module _ {A : Type 0} where
   drop-take (suc k) zero l = rw zero-sub
   drop-take (suc k) (suc n) [] = rw take-nil
   drop-take (suc k) (suc n) (a ∷ l) = rw suc-sub-suc (drop-take k n l)
+
+  -- a part that is there
+  pub length-part : (l : List A) (at n : ℕ) → n ≤ length l - at → length (take n (drop at l)) ≡ n
+  length-part l at n h = simp (length-take, length-drop) (omega arith)
 
   -- ---- lists by a rule
 

@@ -1,4 +1,4 @@
--- A fact about every number below a bound, from one test that antt computes.
+-- Tests: one of two numbers by a test, and a fact about every number below a bound from one test that antt computes.
 -- Assumes nothing.
 use mathlib.Core.Path.{subst⁻¹}
 use mathlib.Core.Logic.{⊎-elim}
@@ -6,6 +6,12 @@ use mathlib.Core.Bool.{Bool, true, false}
 use Prim.Native.Nat.{ℕ, zero, suc, _<_}
 use native.Mathlib.Nat.{not-suc-le-zero, le-of-suc-le-suc, eq-or-lt-of-le}
 use lib.Dec.{T}
+use Rattle.words.specs.Pick.{pick}
+
+-- a bound on both is one on either
+pub pick-lt : (t : Bool) {a b n : ℕ} → a < n → b < n → pick t a b < n
+pick-lt true ha hb = ha
+pick-lt false ha hb = hb
 
 abbrev pub both : Bool → Bool → Bool
 both true b = b

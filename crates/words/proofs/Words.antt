@@ -5,10 +5,11 @@ use mathlib.Core.List.{List, []}
 use Prim.Native.Nat.{ℕ, suc, _+_, _-_, _*_, _^_, _≤_, _<_}
 use native.Mathlib.Nat.{lt-of-lt-of-le, pow-le-pow-right}
 use native.Mathlib.Omega.{arith}
-use lib.ListN.{length, getD, drop, length-take, length-drop, drop-of-length-le}
+use lib.ListN.{length, getD, drop, length-drop, drop-of-length-le}
 use lib.Seq.{getD-take, getD-drop}
 use Rattle.words.specs.Block.{part}
 use Rattle.words.specs.Bytes.{Bytes, number, filled}
+use Rattle.words.proofs.Lists.{length-part}
 use Rattle.words.proofs.Bytes.{bytes-take, bytes-drop, bytes-filled, number-lt, number-first, length-filled, filled-at, drop-filled}
 
 -- the word's bytes from i on
@@ -16,16 +17,16 @@ abbrev pub rest : List ℕ → ℕ → ℕ → ℕ → ℕ → List ℕ
 rest s at n t i = drop i (filled t 8 (part s at n))
 
 module _ (s : List ℕ) (at n t : ℕ) (fits : n ≤ length s - at) (short : n ≤ 8) where
-  length-part : length (part s at n) ≡ n
-  length-part = simp (length-take, length-drop) (omega arith)
+  there : length (part s at n) ≡ n
+  there = length-part s at n fits
 
   pub rest-above : number (rest s at n t n) ≡ number (filled t (8 - n) [])
-  rest-above = rw (drop-filled t n 8 (part s at n) (omega (arith, length-part)), drop-of-length-le (part s at n) {i = n} (omega (arith, length-part)))
+  rest-above = rw (drop-filled t n 8 (part s at n) (omega (arith, there)), drop-of-length-le (part s at n) {i = n} (omega (arith, there)))
 
   rest-first : (j : ℕ) → j < n → number (rest s at n t (suc j)) * 256 + getD s (at + j) 0 ≡ number (rest s at n t j)
   rest-first j h =
       let e : getD (filled t 8 (part s at n)) j 0 ≡ getD s (at + j) 0 =
-      filled-at t 8 (part s at n) j (omega arith) (omega (arith, length-part)) ∙ getD-take n (drop at s) j 0 h ∙ getD-drop at s j 0 in
+      filled-at t 8 (part s at n) j (omega arith) (omega (arith, there)) ∙ getD-take n (drop at s) j 0 h ∙ getD-drop at s j 0 in
       sym (number-first (filled t 8 (part s at n)) j (omega (arith, length-filled t 8 (part s at n)))
       ∙ ap (λ (b : ℕ). number (rest s at n t (suc j)) * 256 + b) e)
 

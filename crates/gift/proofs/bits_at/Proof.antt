@@ -1,9 +1,8 @@
-use mathlib.Core.Path.{ap, subst⁻¹, _∙_}
-use Prim.Native.Nat.{ℕ, _-_, _/_, _%_, _^_, _<_}
+use mathlib.Core.Path.{ap, _∙_}
+use Prim.Native.Nat.{ℕ, _-_, _/_, _%_, _^_}
 use native.Mathlib.Omega.{arith}
-use lib.Pow.{pow-pos}
 use borrow.Author.Needs.{needs}
-use Rattle.gift.proofs.Fields.{field-low, field-high, one-shl}
+use Rattle.gift.proofs.Fields.{field-low, field-high, one-shl, one-shl-pos}
 use Rattle.gift.proofs.bits_at.Statement.{statement}
 use Rattle.gift.proofs.bits_at.Tie as tie
 
@@ -14,17 +13,13 @@ shr-result : tie.Need-shr-result
 shr-result c = search needs
 
 rem-result : tie.Need-rem-result
-rem-result c =
-    let d = c .before .before in
-    subst⁻¹ (λ (m : ℕ). 0 < m) (one-shl (d .args .w) (d .pre .2)) (pow-pos (d .args .w))
+rem-result c = one-shl-pos (c .before .before .args .w) (c .before .before .pre .2)
 
 shr-result-2 : tie.Need-shr-result-2
 shr-result-2 c = search needs
 
 rem-result-2 : tie.Need-rem-result-2
-rem-result-2 c =
-    let d = c .before .before in
-    subst⁻¹ (λ (m : ℕ). 0 < m) (one-shl (d .args .w) (d .pre .2)) (pow-pos (d .args .w))
+rem-result-2 c = one-shl-pos (c .before .before .args .w) (c .before .before .pre .2)
 
 returns : tie.Need-returns
 returns c =

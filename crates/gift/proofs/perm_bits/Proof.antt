@@ -7,9 +7,10 @@ use Rattle.words.specs.Digits.{xsum}
 use Rattle.words.specs.Pick.{pick}
 use Rattle.words.proofs.Blocks.{sum-turn}
 use Rattle.words.proofs.Lists.{tab-at}
+use Rattle.words.proofs.Tests.{pick-lt}
 use Rattle.gift.specs.Gift.{bit, place, permBits}
 use Rattle.gift.proofs.Fields.{put-fits}
-use Rattle.gift.proofs.Steps.{from-lt, to-lt}
+use Rattle.gift.proofs.Steps.{place-lt}
 use Rattle.gift.proofs.perm_bits.Statement.{statement}
 use Rattle.gift.proofs.perm_bits.Tie as tie
 
@@ -55,13 +56,13 @@ to c = let l = c .before .before .before .before .before in c .either2 .ensures 
 bits-at-requires : tie.Need-bits-at-requires Inv-loop μ-loop
 bits-at-requires c κs =
     let l = c .before .before .before .before .before in
-    let h : c .before .either .result < 128 = rw (from (c .before)) (from-lt (l .before .args .back) (l .loop .i) (omega arith)) in
+    let h : c .before .either .result < 128 = rw (from (c .before)) (pick-lt (l .before .args .back) (place-lt (l .loop .i) (omega arith)) (omega arith)) in
     (h, omega arith, omega arith)
 
 put-requires : tie.Need-put-requires Inv-loop μ-loop
 put-requires c κs =
     let l = c .before .before .before .before .before .before in
-    (rw (to (c .before)) (to-lt (l .before .args .back) (l .loop .i) (omega arith)), put-fits _ 1 (c .before .either2 .result) (omega arith) (omega arith))
+    (rw (to (c .before)) (pick-lt (l .before .args .back) (omega arith) (place-lt (l .loop .i) (omega arith))), put-fits _ 1 (c .before .either2 .result) (omega arith) (omega arith))
 
 add-i : tie.Need-add-i Inv-loop μ-loop
 add-i c = omega arith
