@@ -1,21 +1,20 @@
 -- A block and its number, each undoing the other; exclusive or of blocks; a block of sixteen bytes.
 -- Assumes nothing.
 use mathlib.Core.Path.{_≡_, sym, ap, ap₂, _∙_, subst}
-use mathlib.Core.List.{List, _++_, append-nil}
+use mathlib.Core.List.{List, _++_}
 use Prim.Native.Nat.{ℕ, _+_, _-_, _*_, _^_, _≤_, _<_, min}
-use native.Mathlib.Nat.{zero-add}
 use native.Mathlib.Omega.{arith}
 use lib.Arith.{digits-lt}
 use lib.Bits.{bitXor, xor-block}
-use lib.ListN.{length, take, drop, length-take, length-drop, drop-of-length-le}
+use lib.ListN.{length, take, drop, length-take, length-drop}
 use lib.Pow.{split, high, low}
-use lib.Seq.{drop-drop, sets, sets-eq, take-all, take-append-le, take-append-add}
+use lib.Seq.{drop-drop, sets, take-all, take-append-le, take-append-add}
 use Rattle.words.specs.declared.Block.{Block}
 use Rattle.words.specs.Block.{value, halves, part, loaded, stored}
 use Rattle.words.specs.Bytes.{Bytes, number, bytes, filled}
 use Rattle.words.specs.Digits.{xsum}
 use Rattle.words.proofs.Sums.{xsum-next}
-use Rattle.words.proofs.Lists.{length-part, drop-take, sets-append, sets-cut}
+use Rattle.words.proofs.Lists.{length-part, drop-take, sets-append, sets-cut, sets-whole}
 use Rattle.words.proofs.Bytes.{bytes-take, bytes-drop, bytes-filled, number-lt, number-split, number-zeros, length-bytes, take-bytes, bytes-append, length-filled, filled-same, filled-full, take-filled, drop-filled, drop-filled-past}
 
 pub value-halves : (x : ℕ) → value (halves x) ≡ x
@@ -60,7 +59,7 @@ number-halves s h e =
     ap halves (number-split 8 s)
     ∙ halves-pair (number (drop 8 s)) (number (take 8 s)) (subst (λ (n : ℕ). number (take 8 s) < 256 ^ n) l (number-lt (take 8 s) (bytes-take 8 s h)))
 
-module _ (s : List ℕ) (h : Bytes s) (t : ℕ) (small : t < 256) (at n m : ℕ) (e : m ≡ min n (min 16 (length s - at))) where
+module _ (s : List ℕ) (h : Bytes s) (t : ℕ) (small : t < 256) (at n m : ℕ) (e : m ≡ min (min n 16) (length s - at)) where
   cut : halves (number (filled t 16 (part s at n))) ≡ halves (number (filled t 16 (part s at m)))
   cut = ap (λ (l : List ℕ). halves (number l)) (filled-same t 16 n m (drop at s) (rw length-drop (omega arith)))
 
@@ -95,7 +94,7 @@ loaded-all s e = ap number (ap (filled 0 16) (take-all 16 s (omega arith)) ∙ f
 
 -- ---- the first bytes of a block, stored
 
-module _ (s : List ℕ) (b : Block) (small : b .lo < 2 ^ 64) (at n m : ℕ) (e : m ≡ min n (min 16 (length s - at))) where
+module _ (s : List ℕ) (b : Block) (small : b .lo < 2 ^ 64) (at n m : ℕ) (e : m ≡ min (min n 16) (length s - at)) where
   sixteen : bytes 16 (value b) ≡ bytes 8 (b .lo) ++ bytes 8 (b .hi)
   unfolding value
   sixteen = bytes-append 8 8 (b .lo) (b .hi) small
@@ -137,6 +136,5 @@ pub stored-all : (s : List ℕ) (x : ℕ) → length s ≡ 16 → stored s 0 16 
 unfolding stored
 stored-all s x e =
     let l = length-bytes 16 x in
-    ap (sets s 0) (take-all 16 (bytes 16 x) (omega arith))
-    ∙ sets-eq (bytes 16 x) s 0 (omega arith)
-    ∙ rw (zero-add, l, drop-of-length-le s {i = 16} (omega arith)) (append-nil (bytes 16 x))
+    let k : length s ≤ length (bytes 16 x) = omega arith in
+    ap (sets s 0) (take-all 16 (bytes 16 x) (omega arith)) ∙ sets-whole s (bytes 16 x) k ∙ take-all (length s) (bytes 16 x) (omega arith)

@@ -5,7 +5,9 @@ pub mod Rotation
 pub mod Tests
 pub mod Lists
 pub mod Bytes
+pub mod Plus
 pub mod Words
 pub mod Blocks
+pub mod WordLists
 pub mod Refusals
 pub mod Single

@@ -2,14 +2,14 @@
 -- Assumes nothing.
 use mathlib.Core.Path.{_≡_, refl, sym, ap, subst, _∙_}
 use mathlib.Core.Logic.{⊎-elim}
-use mathlib.Core.List.{List, [], _∷_, _++_}
+use mathlib.Core.List.{List, [], _∷_, _++_, append-nil}
 use Prim.Native.Nat.{ℕ, zero, suc, _+_, _-_, _≤_, _<_}
 use native.Mathlib.Decide.{decLe}
 use native.Mathlib.Nat.{ne-of-lt, eq-or-lt-of-le, zero-add, add-zero, add-suc, suc-add, sub-zero, zero-sub, suc-sub-suc, not-suc-le-zero, le-of-suc-le-suc}
 use native.Mathlib.Numerals.{add-one}
 use native.Mathlib.Omega.{arith}
-use lib.ListN.{length, getD, take, drop, set, replicate, length-set, length-take, length-drop}
-use lib.Seq.{sets, set-out, take-nil, ext-getD, getD-set-same, getD-set-other}
+use lib.ListN.{length, getD, take, drop, set, replicate, length-set, length-take, length-drop, drop-of-length-le}
+use lib.Seq.{sets, sets-eq, set-out, take-nil, ext-getD, getD-set-same, getD-set-other}
 use Rattle.words.specs.Digits.{tab}
 
 module _ {A : Type 0} where
@@ -45,7 +45,7 @@ module _ {A : Type 0} where
     pub tab-at : (n k : ℕ) → k < n → getD (tab f 0 n) k d ≡ f k
     tab-at n k h = tab-from 0 n k h ∙ ap f (zero-add k)
 
-    length-tab : (i n : ℕ) → length (tab f i n) ≡ n
+    pub length-tab : (i n : ℕ) → length (tab f i n) ≡ n
     unfolding tab
     length-tab i zero = refl
     length-tab i (suc n) = ap suc (length-tab (suc i) n)
@@ -86,3 +86,14 @@ module _ {A : Type 0} where
             let e : length l - i ≡ suc (length l - suc i) = omega arith in
             rw e (sets-cut (set l i a) (suc i) vs ∙ rw length-set)
       ]
+
+  -- a list as long or longer, stored from the front
+  pub sets-whole : (l vs : List A) → length l ≤ length vs → sets l 0 vs ≡ take (length l) vs
+  sets-whole l vs h =
+      let k : length (take (length l) vs) ≡ length l = simp length-take (omega arith) in
+      sets-cut l 0 vs ∙ rw sub-zero (sets-eq (take (length l) vs) l 0 (omega arith)
+      ∙ rw (zero-add, k, drop-of-length-le l {i = length l} (omega arith)) (append-nil (take (length l) vs)))
+
+-- a list is that of its elements
+pub listed : (l : List ℕ) (n : ℕ) → length l ≡ n → l ≡ tab (λ j. getD l j 0) 0 n
+listed l n e = fill-end (λ j. getD l j 0) 0 l n e (λ j h. refl)

@@ -1,8 +1,9 @@
--- Lists of bytes and their numbers.
+-- Lists of bytes, their numbers and their sums.
 -- Assumes nothing.
 use Prim.Native.Nat.{ℕ, zero, suc, _+_, _*_, _/_, _%_, _<_}
-use mathlib.Core.List.{List, [], _∷_}
-use lib.ListN.{getD, replicate}
+use mathlib.Core.List.{List, [], _∷_, _++_}
+use lib.Bits.{bitXor}
+use lib.ListN.{getD, take, drop, replicate}
 
 -- each element is a byte (past the end getD gives 0)
 abbrev pub Bytes : List ℕ → Type 0
@@ -27,3 +28,13 @@ filled t (suc n) (b ∷ s) = b ∷ filled t n s
 -- "Pad leaves a full block; a shorter one gets a single 1 bit above its top bit, then zeros"
 abbrev pub pad : List ℕ → List ℕ
 pad s = filled 1 16 s
+
+-- s plus t, byte by byte by exclusive or, as far as t goes
+unfoldable pub plus : List ℕ → List ℕ → List ℕ
+plus [] t = []
+plus (b ∷ s) [] = b ∷ s
+plus (b ∷ s) (c ∷ t) = bitXor b c ∷ plus s t
+
+-- s with t added from place at on
+unfoldable pub plusAt : ℕ → List ℕ → List ℕ → List ℕ
+plusAt at s t = take at s ++ plus (drop at s) t

@@ -1,4 +1,4 @@
--- Digits of a number, rotation, sums by exclusive or, and lists by a rule.
+-- Digits of a number, sums in so many bits, rotation, sums by exclusive or, and lists by a rule.
 -- Assumes nothing.
 use Prim.Native.Nat.{ℕ, zero, suc, _+_, _-_, _*_, _/_, _%_, _^_}
 use mathlib.Core.List.{List, [], _∷_}
@@ -8,9 +8,17 @@ use lib.Bits.{bitXor}
 abbrev pub digit : ℕ → ℕ → ℕ → ℕ
 digit b j n = n / b ^ j % b
 
+-- x plus y in b bits
+abbrev pub sumMod : ℕ → ℕ → ℕ → ℕ
+sumMod b x y = (x + y) % 2 ^ b
+
 -- x, of b bits, rotated right by n
 unfoldable pub rotr : ℕ → ℕ → ℕ → ℕ
 rotr b n x = x % 2 ^ n * 2 ^ (b - n) + x / 2 ^ n
+
+-- and left
+abbrev pub rotl : ℕ → ℕ → ℕ → ℕ
+rotl b n x = rotr b (b - n) x
 
 -- the exclusive or of f 0, f 1, .., f (n - 1)
 unfoldable pub xsum : (ℕ → ℕ) → ℕ → ℕ

@@ -3,4 +3,5 @@ pub mod Pick
 pub mod Digits
 pub mod Bytes
 pub mod Block
+pub mod Words
 pub mod Refuse

@@ -1,12 +1,12 @@
-// Numbers of 128 bits, and how they are read from bytes and written to them. Nothing is refused and nothing
-// faults: what lies past the end of a slice reads as 0 and is not written.
+// Numbers of 128 bits, how they are read from bytes and written to them, and sums of bytes. Nothing is refused
+// and nothing faults: what lies past the end of a slice reads as 0 and is not written.
 ghost use mathlib.Core.Path.{_≡_};
 ghost use mathlib.Core.List.{[]};
 ghost use Prim.Native.Nat.{_+_, _-_, _≤_, _<_, min};
 ghost use lib.Bits.{bitXor};
 ghost use lib.ListN.{length};
 ghost use lib.Seq.{sets};
-ghost use Rattle.words.specs.Bytes.{number, bytes, filled};
+ghost use Rattle.words.specs.Bytes.{number, bytes, filled, plusAt};
 ghost use Rattle.words.specs.Block.{value, halves, part, loaded, loadedPad, stored};
 
 // A number of 128 bits.
@@ -50,7 +50,7 @@ pub fn load_pad(s: &[u8], at: usize, n: usize) -> Block
 pub fn store(s: &mut [u8], at: usize, n: usize, b: Block)
     ensures { λ _. ⌜ now (s .exit) ≡ stored (now (s .entry)) at n (value b) ⌝ }
 {
-    let m = there(s.len(), at, n);
+    let m = there(s.len(), at, least(n, 16));
     if m <= 8 {
         put(s, at, m, b.lo);
         return;
@@ -59,18 +59,26 @@ pub fn store(s: &mut [u8], at: usize, n: usize, b: Block)
     put(s, at + 8, m - 8, b.hi);
 }
 
-// How many of n bytes from at on lie in a slice of len bytes, at most 16.
+// Adds n bytes of t from `from` on, by exclusive or, to s from at on: as many as are there in both.
+pub fn add(s: &mut [u8], at: usize, t: &[u8], from: usize, n: usize)
+    ensures { λ _. ⌜ now (s .exit) ≡ plusAt at (now (s .entry)) (part (now (t .entry)) from n) ⌝ }
+{
+    let m = there(s.len(), at, there(t.len(), from, n));
+    let mut i = 0;
+    while i < m {
+        s[at + i] = s[at + i] ^ t[from + i];
+        i += 1;
+    }
+}
+
+// How many of n bytes from at on lie in a slice of len bytes.
 fn there(len: usize, at: usize, n: usize) -> usize
-    ensures { λ r. ⌜ r ≡ min n (min 16 (len - at)) ⌝ }
+    ensures { λ r. ⌜ r ≡ min n (len - at) ⌝ }
 {
     if len <= at {
         return 0;
     }
-    let left = len - at;
-    if left < 16 {
-        return least(n, left);
-    }
-    least(n, 16)
+    least(n, len - at)
 }
 
 fn least(a: usize, b: usize) -> usize
@@ -83,7 +91,7 @@ fn least(a: usize, b: usize) -> usize
 fn gathered(s: &[u8], at: usize, n: usize, top: u8) -> Block
     ensures { λ r. ⌜ r ≡ halves (number (filled top 16 (part (now (s .entry)) at n))) ⌝ }
 {
-    let m = there(s.len(), at, n);
+    let m = there(s.len(), at, least(n, 16));
     if m < 8 {
         let lo = word(s, at, m, top);
         return Block { lo: lo, hi: 0 };
@@ -93,8 +101,20 @@ fn gathered(s: &[u8], at: usize, n: usize, top: u8) -> Block
     Block { lo: lo, hi: hi }
 }
 
-// The number of eight bytes: n of s from at on, and where those are fewer, top and zeros.
+// The number of eight bytes: n of s from at on, and where those are fewer, top and zeros. A loop whose count is
+// written down becomes a single read.
 fn word(s: &[u8], at: usize, n: usize, top: u8) -> u64
+    requires { ⌜ (n ≤ length (now s) - at) × (n ≤ 8) ⌝ }
+    ensures { λ r. ⌜ r ≡ number (filled top 8 (part (now (s .entry)) at n)) ⌝ }
+{
+    if n == 8 {
+        return word_down(s, at, 8, top);
+    }
+    word_down(s, at, n, top)
+}
+
+// The same, from the highest byte down.
+fn word_down(s: &[u8], at: usize, n: usize, top: u8) -> u64
     requires { ⌜ (n ≤ length (now s) - at) × (n ≤ 8) ⌝ }
     ensures { λ r. ⌜ r ≡ number (filled top 8 (part (now (s .entry)) at n)) ⌝ }
 {
@@ -115,8 +135,20 @@ fn above(n: usize, top: u8) -> u64
     if n < 8 { wide(top) } else { 0 }
 }
 
-// Writes the n low bytes of w to s from at on.
+// Writes the n low bytes of w to s from at on; eight of them at once, as `word` reads them.
 fn put(s: &mut [u8], at: usize, n: usize, w: u64)
+    requires { ⌜ n ≤ length (now s) - at ⌝ }
+    ensures { λ _. ⌜ now (s .exit) ≡ sets (now (s .entry)) at (bytes n w) ⌝ }
+{
+    if n == 8 {
+        put_up(s, at, 8, w);
+    } else {
+        put_up(s, at, n, w);
+    }
+}
+
+// The same, from the lowest byte up.
+fn put_up(s: &mut [u8], at: usize, n: usize, w: u64)
     requires { ⌜ n ≤ length (now s) - at ⌝ }
     ensures { λ _. ⌜ now (s .exit) ≡ sets (now (s .entry)) at (bytes n w) ⌝ }
 {

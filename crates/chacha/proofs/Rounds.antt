@@ -1,0 +1,88 @@
+-- The rounds and the block, of what the code's calls ensure.
+-- Assumes nothing.
+use mathlib.Core.Path.{_≡_, refl, sym, ap, ap₂, _∙_}
+use mathlib.Core.List.{List, [], _∷_}
+use Prim.Native.Nat.{ℕ, _+_, _*_, _≤_, _<_}
+use native.Mathlib.Numerals.{add-one}
+use native.Mathlib.Omega.{arith}
+use lib.Bits.{bitXor}
+use lib.ListN.{length, getD, drop, set, replicate}
+use lib.Seq.{sets, take-all}
+use Rattle.words.specs.Digits.{sumMod, rotl, tab}
+use Rattle.words.specs.Words.{words, unwords}
+use Rattle.words.proofs.Lists.{tab-at, length-tab, listed, sets-whole}
+use Rattle.words.proofs.WordLists.{length-unwords, words-first}
+use Rattle.chacha.specs.declared.Quad.{Quad}
+use Rattle.chacha.specs.ChaCha.{quarter, quarterRound, doubleRound, rounds, start, sums, blockFrom}
+
+pub quarter-is : (a b c d a₁ d₁ c₁ b₁ a₂ d₂ c₂ b₂ : ℕ)
+    → a₁ ≡ sumMod 32 a b → d₁ ≡ rotl 32 16 (bitXor d a₁) → c₁ ≡ sumMod 32 c d₁ → b₁ ≡ rotl 32 12 (bitXor b c₁)
+    → a₂ ≡ sumMod 32 a₁ b₁ → d₂ ≡ rotl 32 8 (bitXor d₁ a₂) → c₂ ≡ sumMod 32 c₁ d₂ → b₂ ≡ rotl 32 7 (bitXor b₁ c₂)
+    → _≡_ {A = Quad} (record { a = a₂; b = b₂; c = c₂; d = d₂ }) (quarter a b c d)
+unfolding quarter
+quarter-is a b c d a₁ d₁ c₁ b₁ a₂ d₂ c₂ b₂ e1 e2 e3 e4 e5 e6 e7 e8 = rw (e8, e7, e6, e5, e4, e3, e2, e1)
+
+-- on sixteen words g 0, g 1, ..
+double : (g : ℕ → ℕ) (p0 p1 p2 p3 q0 q1 q2 q3 : Quad)
+    → p0 ≡ quarter (g 0) (g 4) (g 8) (g 12) → p1 ≡ quarter (g 1) (g 5) (g 9) (g 13) → p2 ≡ quarter (g 2) (g 6) (g 10) (g 14) → p3 ≡ quarter (g 3) (g 7) (g 11) (g 15)
+    → q0 ≡ quarter (p0 .a) (p1 .b) (p2 .c) (p3 .d) → q1 ≡ quarter (p1 .a) (p2 .b) (p3 .c) (p0 .d)
+    → q2 ≡ quarter (p2 .a) (p3 .b) (p0 .c) (p1 .d) → q3 ≡ quarter (p3 .a) (p0 .b) (p1 .c) (p2 .d)
+    → _≡_ {A = List ℕ} (q0 .a ∷ q1 .a ∷ q2 .a ∷ q3 .a ∷ q3 .b ∷ q0 .b ∷ q1 .b ∷ q2 .b ∷ q2 .c ∷ q3 .c ∷ q0 .c ∷ q1 .c ∷ q1 .d ∷ q2 .d ∷ q3 .d ∷ q0 .d ∷ [])
+    (doubleRound (tab g 0 16))
+unfolding tab doubleRound quarterRound
+double g p0 p1 p2 p3 q0 q1 q2 q3 e0 e1 e2 e3 f0 f1 f2 f3 = rw (f0, f1, f2, f3, e0, e1, e2, e3)
+
+pub double-is : (s : List ℕ) → length s ≡ 16 → (p0 p1 p2 p3 q0 q1 q2 q3 : Quad)
+    → p0 ≡ quarter (getD s 0 0) (getD s 4 0) (getD s 8 0) (getD s 12 0) → p1 ≡ quarter (getD s 1 0) (getD s 5 0) (getD s 9 0) (getD s 13 0)
+    → p2 ≡ quarter (getD s 2 0) (getD s 6 0) (getD s 10 0) (getD s 14 0) → p3 ≡ quarter (getD s 3 0) (getD s 7 0) (getD s 11 0) (getD s 15 0)
+    → q0 ≡ quarter (p0 .a) (p1 .b) (p2 .c) (p3 .d) → q1 ≡ quarter (p1 .a) (p2 .b) (p3 .c) (p0 .d)
+    → q2 ≡ quarter (p2 .a) (p3 .b) (p0 .c) (p1 .d) → q3 ≡ quarter (p3 .a) (p0 .b) (p1 .c) (p2 .d)
+    → _≡_ {A = List ℕ} (q0 .a ∷ q1 .a ∷ q2 .a ∷ q3 .a ∷ q3 .b ∷ q0 .b ∷ q1 .b ∷ q2 .b ∷ q2 .c ∷ q3 .c ∷ q0 .c ∷ q1 .c ∷ q1 .d ∷ q2 .d ∷ q3 .d ∷ q0 .d ∷ [])
+    (doubleRound s)
+double-is s e p0 p1 p2 p3 q0 q1 q2 q3 e0 e1 e2 e3 f0 f1 f2 f3 =
+    double (λ j. getD s j 0) p0 p1 p2 p3 q0 q1 q2 q3 e0 e1 e2 e3 f0 f1 f2 f3 ∙ ap doubleRound (sym (listed s 16 e))
+
+pub rounds-none : (s : List ℕ) → rounds 0 s ≡ s
+unfolding rounds
+rounds-none s = refl
+
+pub rounds-next : (n : ℕ) (s t u : List ℕ) → t ≡ rounds n s → u ≡ doubleRound t → u ≡ rounds (n + 1) s
+unfolding rounds
+rounds-next n s t u e f = rw (add-one, f, e)
+
+-- the start differs in the counter alone
+pub start-set : (key nonce : List ℕ) (c₀ c : ℕ) → set (start key nonce c₀) 12 c ≡ start key nonce c
+unfolding start words tab
+start-set key nonce c₀ c = refl
+
+pub length-start : (key nonce : List ℕ) (c : ℕ) → length (start key nonce c) ≡ 16
+unfolding start words tab
+length-start key nonce c = refl
+
+-- ---- the block's words
+
+pub sum-at : (s t : List ℕ) (i : ℕ) → i < 16 → getD (sums s t) i 0 ≡ sumMod 32 (getD s i 0) (getD t i 0)
+unfolding sums
+sum-at s t i h = tab-at (λ j. sumMod 32 (getD s j 0) (getD t j 0)) 0 16 i h
+
+pub length-sums : (s t : List ℕ) → length (sums s t) ≡ 16
+unfolding sums
+length-sums s t = length-tab (λ j. sumMod 32 (getD s j 0) (getD t j 0)) 0 0 16
+
+length-bytes : (s t : List ℕ) → length (unwords 4 (sums s t)) ≡ 64
+length-bytes s t = length-unwords 4 (sums s t) ∙ ap (λ (n : ℕ). 4 * n) (length-sums s t)
+
+-- all of them, from the front of the room
+pub block-first : (s t : List ℕ) → sets (replicate 64 0) (4 * 0) (unwords 4 (drop 0 (sums s t))) ≡ unwords 4 (sums s t)
+block-first s t =
+    let l = length-bytes s t in
+    let k : 64 ≤ length (unwords 4 (sums s t)) = omega arith in
+    words-first 4 (replicate 64 0) (sums s t) ∙ sets-whole (replicate 64 0) (unwords 4 (sums s t)) k ∙ take-all 64 (unwords 4 (sums s t)) (omega arith)
+
+pub block-is : (s t out : List ℕ) → t ≡ rounds 10 s → out ≡ unwords 4 (sums s t) → out ≡ blockFrom s
+unfolding blockFrom
+block-is s t out e f = rw (f, e)
+
+pub length-block : (s : List ℕ) → length (blockFrom s) ≡ 64
+unfolding blockFrom
+length-block s = length-bytes s (rounds 10 s)

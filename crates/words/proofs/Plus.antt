@@ -1,0 +1,115 @@
+-- Sums of byte lists by exclusive or.
+-- Assumes nothing.
+use mathlib.Core.Path.{_≡_, refl, sym, ap, ap₂, _∙_}
+use mathlib.Core.List.{List, [], _∷_, _++_, append-nil}
+use Prim.Native.Nat.{ℕ, zero, suc, _+_, _-_, _≤_, _<_, min}
+use native.Mathlib.Decide.{decLe}
+use native.Mathlib.Nat.{zero-add, suc-add, suc-inj, not-suc-le-zero, le-of-suc-le-suc}
+use native.Mathlib.Numerals.{add-one}
+use native.Mathlib.Omega.{arith}
+use lib.Bits.{bitXor}
+use lib.ListN.{length, getD, take, drop, set, replicate, length-take, length-drop, length-append, take-append-drop, drop-of-length-le}
+use lib.Seq.{drop-cons, getD-take, getD-drop, take-all}
+use Rattle.words.specs.Block.{part}
+use Rattle.words.specs.Bytes.{plus, plusAt}
+use Rattle.words.proofs.ExclusiveOr.{xor-undo}
+
+pub plus-none : (s : List ℕ) → plus s [] ≡ s
+unfolding plus
+plus-none [] = refl
+plus-none (b ∷ s) = refl
+
+pub length-plus : (s t : List ℕ) → length (plus s t) ≡ length s
+unfolding plus
+length-plus [] t = refl
+length-plus (b ∷ s) [] = refl
+length-plus (b ∷ s) (c ∷ t) = ap suc (length-plus s t)
+
+-- what is added twice is gone
+pub plus-twice : (s t : List ℕ) → plus (plus s t) t ≡ s
+unfolding plus
+plus-twice [] t = refl
+plus-twice (b ∷ s) [] = refl
+plus-twice (b ∷ s) (c ∷ t) = ap₂ _∷_ (xor-undo b c) (plus-twice s t)
+
+-- part by part
+pub plus-append : (a b x y : List ℕ) → length a ≡ length x → plus (a ++ b) (x ++ y) ≡ plus a x ++ plus b y
+unfolding plus
+plus-append [] b [] y e = refl
+plus-append [] b (q ∷ x) y e = absurd (omega arith)
+plus-append (p ∷ a) b [] y e = absurd (omega arith)
+plus-append (p ∷ a) b (q ∷ x) y e = ap (λ (r : List ℕ). bitXor p q ∷ r) (plus-append a b x y (suc-inj e))
+
+-- to zeros
+pub plus-zeros : (n : ℕ) (t : List ℕ) → length t ≡ n → plus (replicate n 0) t ≡ t
+unfolding plus
+plus-zeros zero [] e = refl
+plus-zeros zero (c ∷ t) e = absurd (omega arith)
+plus-zeros (suc n) [] e = absurd (omega arith)
+plus-zeros (suc n) (c ∷ t) e = ap (λ (r : List ℕ). c ∷ r) (plus-zeros n t (suc-inj e))
+
+-- ---- from a place on
+
+pub plusAt-first : (s t : List ℕ) → plusAt 0 s t ≡ plus s t
+unfolding plusAt
+plusAt-first s t = refl
+
+pub plusAt-none : (at : ℕ) (s : List ℕ) → plusAt at s [] ≡ s
+unfolding plusAt
+plusAt-none at s = ap (λ (r : List ℕ). take at s ++ r) (plus-none (drop at s)) ∙ take-append-drop at s
+
+pub plusAt-past : (at : ℕ) (s t : List ℕ) → length s ≤ at → plusAt at s t ≡ s
+unfolding plus plusAt
+plusAt-past at s t h = rw (drop-of-length-le s {i = at} h, take-all at s h) (append-nil s)
+
+pub length-plusAt : (at : ℕ) (s t : List ℕ) → length (plusAt at s t) ≡ length s
+unfolding plusAt
+length-plusAt at s t = rw (length-append, length-take, length-plus, length-drop) (omega arith)
+
+-- two lists one after the other
+after : (s t u : List ℕ) → plusAt (length t) (plus s t) u ≡ plus s (t ++ u)
+unfolding plus plusAt
+after [] [] u = refl
+after [] (c ∷ t) u = refl
+after (b ∷ s) [] u = refl
+after (b ∷ s) (c ∷ t) u = ap (λ (r : List ℕ). bitXor b c ∷ r) (after s t u)
+
+pub plusAt-append : (at : ℕ) (s t u : List ℕ) → plusAt (at + length t) (plusAt at s t) u ≡ plusAt at s (t ++ u)
+unfolding plus plusAt
+plusAt-append zero s t u = rw zero-add (after s t u)
+plusAt-append (suc at) [] t u = rw suc-add
+plusAt-append (suc at) (b ∷ s) t u = rw suc-add (ap (λ (r : List ℕ). b ∷ r) (plusAt-append at s t u))
+
+-- to the first part of a list
+pub plusAt-part : (a b t : List ℕ) → length a ≡ length t → plusAt 0 (a ++ b) t ≡ plus a t ++ b
+plusAt-part a b t e =
+    plusAt-first (a ++ b) t ∙ ap (plus (a ++ b)) (sym (append-nil t)) ∙ plus-append a b t [] e ∙ ap (λ (r : List ℕ). plus a t ++ r) (plus-none b)
+
+-- ---- one byte after the other
+
+plusAt-set : (at : ℕ) (s : List ℕ) (c : ℕ) (t : List ℕ) → at < length s → plusAt (suc at) (set s at (bitXor (getD s at 0) c)) t ≡ plusAt at s (c ∷ t)
+unfolding plus plusAt
+plusAt-set at [] c t h = absurd (not-suc-le-zero h)
+plusAt-set zero (b ∷ s) c t h = refl
+plusAt-set (suc at) (b ∷ s) c t h = ap (λ (r : List ℕ). b ∷ r) (plusAt-set at s c t (le-of-suc-le-suc h))
+
+module _ (t : List ℕ) (from n at i : ℕ) where
+  -- one turn of a loop that adds a part of t
+  pub plusAt-turn : (s l : List ℕ) → i < n → from + i < length t → at + i < length s → plusAt (at + i) s (drop i (part t from n)) ≡ l
+      → plusAt (at + (i + 1)) (set s (at + i) (bitXor (getD s (at + i) 0) (getD t (from + i) 0))) (drop (i + 1) (part t from n)) ≡ l
+  plusAt-turn s l hn ht hs e =
+      let p = part t from n in
+      let lp : length p ≡ min n (length t - from) = simp (length-take, length-drop) in
+      let ei : at + (i + 1) ≡ suc (at + i) = omega arith in
+      let eb : getD p i 0 ≡ getD t (from + i) 0 = getD-take n (drop from t) i 0 hn ∙ getD-drop from t i 0 in
+      rw (ei, add-one, ← eb) (plusAt-set (at + i) s (getD p i 0) (drop (suc i) p) hs ∙ rw (drop-cons p i 0 (omega arith)) at e)
+
+  -- and its end, where one of them has no more
+  pub plusAt-end : (s : List ℕ) → min (min n (length t - from)) (length s - at) ≤ i → plusAt (at + i) s (drop i (part t from n)) ≡ s
+  plusAt-end s h =
+      let p = part t from n in
+      let lp : length p ≡ min n (length t - from) = simp (length-take, length-drop) in
+      elim (decLe (length s) (at + i)) [
+        | yes k ↦ plusAt-past (at + i) s (drop i p) k
+        | no k ↦ ap (plusAt (at + i) s) (drop-of-length-le p {i = i} (omega arith)) ∙ plusAt-none (at + i) s
+      ]
