@@ -1,0 +1,41 @@
+use Prim.Native.Nat.{ℕ}
+use mathlib.Core.Path.{ap₂, _∙_}
+use Rattle.blake.specs.Blake.{mixed}
+use borrow.Author.Needs.{needs}
+use Rattle.blake.proofs.mix_at.Statement.{statement}
+use Rattle.blake.proofs.mix_at.Tie as tie
+
+mul-word-of : tie.Need-mul-word-of
+mul-word-of c = search needs
+
+word-of-requires : tie.Need-word-of-requires
+word-of-requires c κs = search needs
+
+mul-word-of-2 : tie.Need-mul-word-of-2
+mul-word-of-2 c = search needs
+
+add-word-of : tie.Need-add-word-of
+add-word-of c = search needs
+
+word-of-requires-2 : tie.Need-word-of-requires-2
+word-of-requires-2 c κs = search needs
+
+mix-requires : tie.Need-mix-requires
+mix-requires c κs = search needs
+
+returns : tie.Need-returns
+returns c =
+    let a = c .before .before .before .args in
+    c .mix .ensures ∙ ap₂ (λ (x y : ℕ). mixed (a .a) (a .b) (a .c) (a .d) x y) (c .before .before .word-of .ensures) (c .before .word-of2 .ensures)
+
+pub mix-at-spec : {M : Type 1} → statement M
+mix-at-spec =
+    tie.close
+    (tie.spec
+    mul-word-of
+    word-of-requires
+    mul-word-of-2
+    add-word-of
+    word-of-requires-2
+    mix-requires
+    returns)

@@ -1,0 +1,2 @@
+pub mod Blake
+pub mod Entry
