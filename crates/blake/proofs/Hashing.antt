@@ -8,7 +8,7 @@ use native.Mathlib.Nat.{mod-eq-of-lt, div-eq-of-lt}
 use native.Mathlib.Omega.{arith}
 use lib.Bits.{bitXor}
 use lib.ListN.{length, getD, take, drop, length-take, length-drop, length-append}
-use lib.Seq.{sets, take-all, take-at, drop-at, drop-drop, take-take}
+use lib.Seq.{sets, length-take-le, take-all, take-at, drop-at, drop-drop, take-take}
 use borrow.Author.Tests.{ne-eqb, le-ltb}
 use Rattle.words.specs.declared.Block.{Block}
 use Rattle.words.specs.Block.{halves, part, loaded}
@@ -145,12 +145,18 @@ module _ (key text h : List ℕ) (nn : ℕ) (some : length key ≡ 0 → ⊥) (s
 
 -- ---- the digest
 
+length-chain : (key text : List ℕ) (nn : ℕ) → length (unwords 8 (hashed key text nn)) ≡ 64
+length-chain key text nn = length-unwords 8 (hashed key text nn) ∙ ap (λ (n : ℕ). 8 * n) (length-hashed key text nn)
+
+-- the whole of it
+pub length-digest : (key text : List ℕ) → length (digest key text 64) ≡ 64
+unfolding digest
+length-digest key text = length-take-le 64 (unwords 8 (hashed key text 64)) (omega (arith, length-chain key text 64))
+
 pub digest-is : (key text room out h : List ℕ) → length room ≤ 64 → h ≡ hashed key text (length room) → out ≡ sets room 0 (unwords 8 h) → out ≡ digest key text (length room)
 unfolding digest
 digest-is key text room out h k eh eo =
-    let u = unwords 8 (hashed key text (length room)) in
-    let lu : length u ≡ 64 = length-unwords 8 (hashed key text (length room)) ∙ ap (λ (n : ℕ). 8 * n) (length-hashed key text (length room)) in
-    eo ∙ ap (λ (l : List ℕ). sets room 0 (unwords 8 l)) eh ∙ sets-whole room u (omega arith)
+    eo ∙ ap (λ (l : List ℕ). sets room 0 (unwords 8 l)) eh ∙ sets-whole room (unwords 8 (hashed key text (length room))) (omega (arith, length-chain key text (length room)))
 
 -- where nothing is refused
 pub digesting-done : (key text room : List ℕ) → length key ≤ 64 → length text ≤ 1048576 → (length room ≡ 0 → ⊥) → length room ≤ 64

@@ -24,10 +24,11 @@ small = tt
 pub place-is : (s : List ℕ) (r i : ℕ) → s ≡ sigmaTable → i < 16 → (getD s (r % 10 * 16 + i) 0 ≡ sigma r i) × (getD s (r % 10 * 16 + i) 0 < 16)
 unfolding sigma
 place-is s r i e h =
-    let k : r % 10 * 16 + i < 160 = omega arith in
-    (ap (λ (l : List ℕ). getD l (r % 10 * 16 + i) 0) e,
+    let k : r % 10 * 16 + i < 160 = omega arith in (
+      ap (λ (l : List ℕ). getD l (r % 10 * 16 + i) 0) e,
       subst⁻¹ (λ (l : List ℕ). getD l (r % 10 * 16 + i) 0 < 16) e
-      (ltb→lt (getD sigmaTable (r % 10 * 16 + i) 0) 16 (below (λ j. ltb (getD sigmaTable j 0) 16) 160 small (r % 10 * 16 + i) k)))
+          (ltb→lt (getD sigmaTable (r % 10 * 16 + i) 0) 16 (below (λ j. ltb (getD sigmaTable j 0) 16) 160 small (r % 10 * 16 + i) k)),
+    )
 
 -- ---- the mixing
 

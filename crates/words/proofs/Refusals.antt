@@ -1,8 +1,11 @@
--- A promise that is an equation allows one result.
+-- Answers: a promise that is an equation allows one result, and an answer is undone where the outputs are.
 -- Assumes nothing.
-use mathlib.Core.Path.{_≡_, sym, ap, _∙_}
+use mathlib.Core.Path.{_≡_, refl, sym, ap, _∙_}
+use mathlib.Core.Bool.{Bool, true, false}
+use mathlib.Core.List.{List, [], _∷_}
 use Prim.Native.Nat.{ℕ}
-use Rattle.words.specs.Refuse.{Answer, answered}
+use Rattle.words.specs.Pick.{pick}
+use Rattle.words.specs.Refuse.{Row, Answer, answer, answered}
 
 -- two results of one equation are equal
 pub same : {A : Type 0} {x y z : A} → x ≡ z → y ≡ z → x ≡ y
@@ -11,3 +14,32 @@ same p q = p ∙ sym q
 -- so are the number and the memory of two answers that one promise allows
 pub same-answer : {A : Type 0} {m n : ℕ} {a b : A} {z : Answer A} → answered m a ≡ z → answered n b ≡ z → (m ≡ n) × (a ≡ b)
 same-answer p q = (ap (λ r. r .number) (same p q), ap (λ r. r .left) (same p q))
+
+-- no row applies
+abbrev pub Clear : List Row → Type 0
+Clear [] = Unit {0}
+Clear (r ∷ rs) = (r .applies ≡ false) × Clear rs
+
+module _ {A : Type 0} (done kept : A) where
+  -- what is so of the outputs and of the memory as it was is so of what an answer leaves
+  pub left-keeps : {B : Type 0} (f : A → B) (rows : List Row) → (Clear rows → f done ≡ f kept) → f (answer rows done kept .left) ≡ f kept
+  left-keeps f [] h = h tt
+  left-keeps f (r ∷ rs) h = by (r .applies) h (left-keeps f rs)
+    where
+      by : (t : Bool) → ((t ≡ false) × Clear rs → f done ≡ f kept) → ((Clear rs → f done ≡ f kept) → f (answer rs done kept .left) ≡ f kept)
+          → f (pick t (record { number = r .number; left = kept }) (answer rs done kept) .left) ≡ f kept
+      by true k rest = refl
+      by false k rest = rest (λ c. k (refl, c))
+
+  -- judged by the same rows, what undoes the outputs undoes the answer: the number is the same and the memory is as it was
+  abbrev Undone : (A → A) → List Row → Type 0
+  Undone back rows = answer rows (back (answer rows done kept .left)) (answer rows done kept .left) ≡ answered (answer rows done kept .number) kept
+
+  pub answer-undone : (back : A → A) (rows : List Row) → (Clear rows → back done ≡ kept) → Undone back rows
+  answer-undone back [] h = ap (answered 0) (h tt)
+  answer-undone back (r ∷ rs) h = by (r .applies) h (answer-undone back rs)
+    where
+      by : (t : Bool) → ((t ≡ false) × Clear rs → back done ≡ kept) → ((Clear rs → back done ≡ kept) → Undone back rs)
+          → Undone back (record { applies = t; number = r .number } ∷ rs)
+      by true k rest = refl
+      by false k rest = rest (λ c. k (refl, c))

@@ -1,0 +1,3 @@
+pub mod Inverse
+pub mod Steps
+pub mod Undone

@@ -1,0 +1,2 @@
+pub mod Lioness
+pub mod Entry

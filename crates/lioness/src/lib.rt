@@ -1,0 +1,103 @@
+// LIONESS on a wide block, both ways, of ChaCha20 and BLAKE2b.
+ghost use mathlib.Core.Path.{_≡_};
+ghost use mathlib.Core.List.{_++_};
+ghost use Prim.Native.Nat.{_≤_};
+ghost use lib.ListN.{length};
+ghost use Rattle.words.specs.Bytes.{plus};
+ghost use Rattle.words.specs.Refuse.{answered};
+ghost use Rattle.lioness.specs.Lioness.{piece, left, streamStep, digestStep, step};
+ghost use Rattle.lioness.specs.Entry.{chacha, blake, ordered, enciphering, deciphering};
+
+// Enciphers block in place. Answers 0, or the refusal.
+pub fn encipher(key: &[u8], iv: &[u8], block: &mut [u8]) -> u32
+    ensures { λ r. ⌜ answered r (now (block .exit)) ≡ enciphering (now (key .entry)) (now (iv .entry)) (now (block .entry)) ⌝ }
+{
+    in_order(1, 2, 3, 4, key, iv, block)
+}
+
+// Deciphers block in place. Answers 0, or the refusal.
+pub fn decipher(key: &[u8], iv: &[u8], block: &mut [u8]) -> u32
+    ensures { λ r. ⌜ answered r (now (block .exit)) ≡ deciphering (now (key .entry)) (now (iv .entry)) (now (block .entry)) ⌝ }
+{
+    in_order(4, 3, 2, 1, key, iv, block)
+}
+
+// Both entry points: the four steps in an order.
+fn in_order(a: usize, b: usize, c: usize, d: usize, key: &[u8], iv: &[u8], block: &mut [u8]) -> u32
+    requires { ⌜ (1 ≤ a) × (a ≤ 4) × (1 ≤ b) × (b ≤ 4) × (1 ≤ c) × (c ≤ 4) × (1 ≤ d) × (d ≤ 4) ⌝ }
+    ensures { λ r. ⌜ answered r (now (block .exit)) ≡ ordered a b c d (now (key .entry)) (now (iv .entry)) (now (block .entry)) ⌝ }
+{
+    if key.len() != 128 {
+        return 1;
+    }
+    if iv.len() != 48 {
+        return 2;
+    }
+    if block.len() < 33 {
+        return 4;
+    }
+    if block.len() > 1048608 {
+        return 4;
+    }
+    step_of(a, key, iv, block);
+    step_of(b, key, iv, block);
+    step_of(c, key, iv, block);
+    step_of(d, key, iv, block);
+    0
+}
+
+// Step j.
+fn step_of(j: usize, key: &[u8], iv: &[u8], block: &mut [u8])
+    requires { ⌜ (1 ≤ j) × (j ≤ 4) × (length (now key) ≡ 128) × (length (now iv) ≡ 48) × (33 ≤ length (now block)) × (length (now block) ≤ 1048608) ⌝ }
+    ensures { λ _. ⌜ now (block .exit) ≡ step chacha blake (now (key .entry)) (now (iv .entry)) j (now (block .entry)) ⌝ }
+{
+    if j % 2 == 1 {
+        stream_step(j, key, iv, block);
+    } else {
+        digest_step(j, key, iv, block);
+    }
+}
+
+// Enciphers R there in the caller's buffer.
+fn stream_step(j: usize, key: &[u8], iv: &[u8], block: &mut [u8])
+    requires { ⌜ (1 ≤ j) × (j ≤ 4) × (length (now key) ≡ 128) × (length (now iv) ≡ 48) × (33 ≤ length (now block)) × (length (now block) ≤ 1048608) ⌝ }
+    ensures { λ _. ⌜ now (block .exit) ≡ streamStep chacha blake (now (key .entry)) (now (iv .entry)) j (now (block .entry)) ⌝ }
+{
+    let k = stream_key(j, key, block);
+    let at = 12 * (j - 1);
+    let end = at + 12;
+    chacha::stream(&k, &iv[at..end], 0, &mut block[32..]);
+}
+
+// Adds the digest of R to L.
+fn digest_step(j: usize, key: &[u8], iv: &[u8], block: &mut [u8])
+    requires { ⌜ (1 ≤ j) × (j ≤ 4) × (length (now key) ≡ 128) × (length (now iv) ≡ 48) × (33 ≤ length (now block)) × (length (now block) ≤ 1048608) ⌝ }
+    ensures { λ _. ⌜ now (block .exit) ≡ digestStep chacha blake (now (key .entry)) (now (iv .entry)) j (now (block .entry)) ⌝ }
+{
+    let k = digest_key(j, key, iv);
+    let mut d = [0u8; 64];
+    blake::digest(&k, &block[32..], &mut d);
+    words::add(block, 0, &d, 0, 32);
+}
+
+// L plus the j-th part of the key.
+fn stream_key(j: usize, key: &[u8], block: &[u8]) -> [u8; 32]
+    requires { ⌜ (1 ≤ j) × (j ≤ 4) × (32 ≤ length (now block)) ⌝ }
+    ensures { λ r. ⌜ r ≡ plus (left (now (block .entry))) (piece 32 j (now (key .entry))) ⌝ }
+{
+    let mut k = [0u8; 32];
+    words::add(&mut k, 0, block, 0, 32);
+    words::add(&mut k, 0, key, 32 * (j - 1), 32);
+    k
+}
+
+// The j-th part of the key followed by the j-th of the iv.
+fn digest_key(j: usize, key: &[u8], iv: &[u8]) -> [u8; 44]
+    requires { ⌜ (1 ≤ j) × (j ≤ 4) × (length (now key) ≡ 128) × (length (now iv) ≡ 48) ⌝ }
+    ensures { λ r. ⌜ r ≡ piece 32 j (now (key .entry)) ++ piece 12 j (now (iv .entry)) ⌝ }
+{
+    let mut k = [0u8; 44];
+    words::add(&mut k, 0, key, 32 * (j - 1), 32);
+    words::add(&mut k, 32, iv, 12 * (j - 1), 12);
+    k
+}
