@@ -8,7 +8,7 @@ use native.Mathlib.Nat.{mod-eq-of-lt, div-eq-of-lt}
 use native.Mathlib.Omega.{arith}
 use lib.Bits.{bitXor}
 use lib.ListN.{length, getD, take, drop, length-take, length-drop, length-append}
-use lib.Seq.{sets, length-take-le, take-all, take-at, drop-at, drop-drop, take-take}
+use lib.Seq.{sets, length-take-le, take-all, take-at, drop-at, drop-drop}
 use borrow.Author.Tests.{ne-eqb, le-ltb}
 use Rattle.words.specs.declared.Block.{Block}
 use Rattle.words.specs.Block.{halves, part, loaded}
@@ -18,7 +18,7 @@ use Rattle.words.specs.Pick.{pick}
 use Rattle.words.specs.Refuse.{Answer, answered}
 use Rattle.words.specs.Words.{words, unwords}
 use Rattle.words.proofs.Bytes.{length-filled, filled-full}
-use Rattle.words.proofs.Lists.{length-tab, listed, drop-take, sets-whole}
+use Rattle.words.proofs.Lists.{length-tab, listed, sets-whole}
 use Rattle.words.proofs.WordLists.{number-filled, loaded-word, length-unwords}
 use Rattle.blake.specs.Blake.{iv, rounds, vector, folded, compress, padded, startChain, absorbed, keyed, hashed, digest}
 use Rattle.blake.specs.Entry.{digesting}
@@ -37,12 +37,16 @@ pub vector-is : (h : List ℕ) → length h ≡ 8 → (t i : ℕ) (last : Bool) 
 vector-is h e t i last k f = vectored (λ j. getD h j 0) t i last k f ∙ ap (λ (l : List ℕ). vector l t last) (sym (listed h 8 e))
 
 -- what a load gives is the word of the padded block
-pub word-is : (s : List ℕ) → Bytes s → (at i : ℕ) → i < 16 → {b : Block} → b ≡ halves (loaded s (at + 8 * i) 8)
-    → b .lo ≡ number (part (padded (part s at 128)) (8 * i) 8)
-word-is s h at i k e =
-    let inner : part (part s at 128) (8 * i) 8 ≡ part s (at + 8 * i) 8 =
-    ap (take 8) (drop-take (8 * i) 128 (drop at s)) ∙ take-take 8 (128 - 8 * i) (drop (8 * i) (drop at s)) (omega arith) ∙ ap (take 8) (drop-drop (8 * i) at s) in
-    loaded-word s h (at + 8 * i) 8 e (omega arith) ∙ ap number (sym inner) ∙ sym (number-filled (8 * i) 8 128 (part s at 128) (omega arith))
+pub word-is : (s : List ℕ) → Bytes s → (i : ℕ) → i < 16 → {b : Block} → b ≡ halves (loaded s (8 * i) 8) → b .lo ≡ number (part (padded s) (8 * i) 8)
+word-is s h i k e = loaded-word s h (8 * i) 8 e (omega arith) ∙ sym (number-filled (8 * i) 8 128 s (omega arith))
+
+-- a whole block, and what is there of one
+pub whole-part : (s : List ℕ) (at end : ℕ) → end ≡ at + 128 → take (end - at) (drop at s) ≡ part s at 128
+whole-part s at end e = let k : end - at ≡ 128 = omega arith in ap (λ (n : ℕ). take n (drop at s)) k
+
+pub rest-part : (s : List ℕ) (at : ℕ) → length s - at < 128 → take (length s - at) (drop at s) ≡ part s at 128
+rest-part s at h =
+    take-all (length s - at) (drop at s) (simp length-drop (omega arith)) ∙ sym (take-all 128 (drop at s) (simp length-drop (omega arith)))
 
 pub compress-is : (h b m v w r : List ℕ) (t : ℕ) (last : Bool) → m ≡ words 8 16 b → v ≡ vector h t last → w ≡ rounds 12 m v → r ≡ folded h w → r ≡ compress h b t last
 unfolding compress

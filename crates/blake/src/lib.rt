@@ -98,7 +98,7 @@ fn absorb(h: [u64; 8], t: u64, s: &[u8]) -> [u64; 8]
 
 // The block of s from at on, or what is there of it with zeros.
 fn compress_of(h: [u64; 8], s: &[u8], at: usize, t: u64, last: bool) -> [u64; 8]
-    requires { ⌜ at ≤ 1048576 ⌝ }
+    requires { ⌜ at ≤ length (now s) ⌝ }
     ensures { λ r. ⌜ r ≡ compress h (padded (part (now (s .entry)) at 128)) t last ⌝ }
 {
     let m = words_of(s, at);
@@ -106,14 +106,25 @@ fn compress_of(h: [u64; 8], s: &[u8], at: usize, t: u64, last: bool) -> [u64; 8]
     folded_of(h, v)
 }
 
+// Its words. Where the whole block is there, it is lent as 128 bytes, and the compiler sees that each word is.
 fn words_of(s: &[u8], at: usize) -> [u64; 16]
-    requires { ⌜ at ≤ 1048576 ⌝ }
+    requires { ⌜ at ≤ length (now s) ⌝ }
     ensures { λ r. ⌜ r ≡ words 8 16 (padded (part (now (s .entry)) at 128)) ⌝ }
+{
+    if s.len() - at >= 128 {
+        let end = at + 128;
+        return words_in(&s[at..end]);
+    }
+    words_in(&s[at..])
+}
+
+fn words_in(s: &[u8]) -> [u64; 16]
+    ensures { λ r. ⌜ r ≡ words 8 16 (padded (now (s .entry))) ⌝ }
 {
     let mut m = [0u64; 16];
     let mut i: usize = 0;
     while i < 16 {
-        m[i] = words::load(s, at + 8 * i, 8).lo;
+        m[i] = words::load(s, 8 * i, 8).lo;
         i += 1;
     }
     m

@@ -80,3 +80,7 @@ pub streaming-done : (key nonce text : List ℕ) (counter : ℕ) → length key 
     → streaming key nonce counter text ≡ answered 0 (stream key nonce counter text)
 unfolding streaming
 streaming-done key nonce text counter ek en ht hb = simp (eq-eqb _ _ ek, eq-eqb _ _ en, le-ltb _ _ ht, le-ltb _ _ hb)
+
+pub streamed : (key nonce text : List ℕ) (counter : ℕ) {out : List ℕ} → out ≡ stream key nonce counter text
+    → length key ≡ 32 → length nonce ≡ 12 → length text ≤ 1048576 → counter + blocks (length text) ≤ 2 ^ 32 → answered 0 out ≡ streaming key nonce counter text
+streamed key nonce text counter e ek en ht hb = ap (answered 0) e ∙ sym (streaming-done key nonce text counter ek en ht hb)

@@ -2,18 +2,49 @@
 // as a pointer and a length.
 ghost use mathlib.Core.Path.{_≡_};
 ghost use Rattle.words.specs.Refuse.{answered};
-ghost use Rattle.gift.specs.Entry.{enciphering, deciphering};
+ghost use Rattle.gift.specs.Entry as gift;
+ghost use Rattle.chacha.specs.Entry as chacha;
+ghost use Rattle.blake.specs.Entry as blake;
+ghost use Rattle.lioness.specs.Entry as lioness;
 
 #[no_mangle]
 pub extern "C" fn vespruldo_gift_encipher(key: &[u8], block: &mut [u8]) -> u32
-    ensures { λ r. ⌜ answered r (now (block .exit)) ≡ enciphering (now (key .entry)) (now (block .entry)) ⌝ }
+    ensures { λ r. ⌜ answered r (now (block .exit)) ≡ gift.enciphering (now (key .entry)) (now (block .entry)) ⌝ }
 {
     gift::encipher(key, block)
 }
 
 #[no_mangle]
 pub extern "C" fn vespruldo_gift_decipher(key: &[u8], block: &mut [u8]) -> u32
-    ensures { λ r. ⌜ answered r (now (block .exit)) ≡ deciphering (now (key .entry)) (now (block .entry)) ⌝ }
+    ensures { λ r. ⌜ answered r (now (block .exit)) ≡ gift.deciphering (now (key .entry)) (now (block .entry)) ⌝ }
 {
     gift::decipher(key, block)
+}
+
+#[no_mangle]
+pub extern "C" fn vespruldo_chacha20(key: &[u8], nonce: &[u8], counter: u32, text: &mut [u8]) -> u32
+    ensures { λ r. ⌜ answered r (now (text .exit)) ≡ chacha.streaming (now (key .entry)) (now (nonce .entry)) counter (now (text .entry)) ⌝ }
+{
+    chacha::stream(key, nonce, counter, text)
+}
+
+#[no_mangle]
+pub extern "C" fn vespruldo_blake2b(key: &[u8], text: &[u8], room: &mut [u8]) -> u32
+    ensures { λ r. ⌜ answered r (now (room .exit)) ≡ blake.digesting (now (key .entry)) (now (text .entry)) (now (room .entry)) ⌝ }
+{
+    blake::digest(key, text, room)
+}
+
+#[no_mangle]
+pub extern "C" fn vespruldo_lioness_encipher(key: &[u8], iv: &[u8], block: &mut [u8]) -> u32
+    ensures { λ r. ⌜ answered r (now (block .exit)) ≡ lioness.enciphering (now (key .entry)) (now (iv .entry)) (now (block .entry)) ⌝ }
+{
+    lioness::encipher(key, iv, block)
+}
+
+#[no_mangle]
+pub extern "C" fn vespruldo_lioness_decipher(key: &[u8], iv: &[u8], block: &mut [u8]) -> u32
+    ensures { λ r. ⌜ answered r (now (block .exit)) ≡ lioness.deciphering (now (key .entry)) (now (iv .entry)) (now (block .entry)) ⌝ }
+{
+    lioness::decipher(key, iv, block)
 }

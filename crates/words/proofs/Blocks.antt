@@ -59,7 +59,7 @@ number-halves s h e =
     ap halves (number-split 8 s)
     ∙ halves-pair (number (drop 8 s)) (number (take 8 s)) (subst (λ (n : ℕ). number (take 8 s) < 256 ^ n) l (number-lt (take 8 s) (bytes-take 8 s h)))
 
-module _ (s : List ℕ) (h : Bytes s) (t : ℕ) (small : t < 256) (at n m : ℕ) (e : m ≡ min (min n 16) (length s - at)) where
+module _ (s : List ℕ) (h : Bytes s) (t : ℕ) (small : t < 256) (at n m : ℕ) (e : m ≡ min n (min 16 (length s - at))) where
   cut : halves (number (filled t 16 (part s at n))) ≡ halves (number (filled t 16 (part s at m)))
   cut = ap (λ (l : List ℕ). halves (number l)) (filled-same t 16 n m (drop at s) (rw length-drop (omega arith)))
 
@@ -94,7 +94,7 @@ loaded-all s e = ap number (ap (filled 0 16) (take-all 16 s (omega arith)) ∙ f
 
 -- ---- the first bytes of a block, stored
 
-module _ (s : List ℕ) (b : Block) (small : b .lo < 2 ^ 64) (at n m : ℕ) (e : m ≡ min (min n 16) (length s - at)) where
+module _ (s : List ℕ) (b : Block) (small : b .lo < 2 ^ 64) (at n m : ℕ) (e : m ≡ min n (min 16 (length s - at))) where
   sixteen : bytes 16 (value b) ≡ bytes 8 (b .lo) ++ bytes 8 (b .hi)
   unfolding value
   sixteen = bytes-append 8 8 (b .lo) (b .hi) small

@@ -105,8 +105,8 @@ module _ (t : List ℕ) (from n at i : ℕ) where
       rw (ei, add-one, ← eb) (plusAt-set (at + i) s (getD p i 0) (drop (suc i) p) hs ∙ rw (drop-cons p i 0 (omega arith)) at e)
 
   -- and its end, where one of them has no more
-  pub plusAt-end : (s : List ℕ) → min (min n (length t - from)) (length s - at) ≤ i → plusAt (at + i) s (drop i (part t from n)) ≡ s
-  plusAt-end s h =
+  pub plusAt-end : (s : List ℕ) (m : ℕ) → m ≡ min (length s - at) (min n (length t - from)) → m ≤ i → plusAt (at + i) s (drop i (part t from n)) ≡ s
+  plusAt-end s m e h =
       let p = part t from n in
       let lp : length p ≡ min n (length t - from) = simp (length-take, length-drop) in
       elim (decLe (length s) (at + i)) [

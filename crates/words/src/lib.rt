@@ -50,7 +50,7 @@ pub fn load_pad(s: &[u8], at: usize, n: usize) -> Block
 pub fn store(s: &mut [u8], at: usize, n: usize, b: Block)
     ensures { λ _. ⌜ now (s .exit) ≡ stored (now (s .entry)) at n (value b) ⌝ }
 {
-    let m = there(s.len(), at, least(n, 16));
+    let m = there(s.len(), at, n);
     if m <= 8 {
         put(s, at, m, b.lo);
         return;
@@ -63,7 +63,7 @@ pub fn store(s: &mut [u8], at: usize, n: usize, b: Block)
 pub fn add(s: &mut [u8], at: usize, t: &[u8], from: usize, n: usize)
     ensures { λ _. ⌜ now (s .exit) ≡ plusAt at (now (s .entry)) (part (now (t .entry)) from n) ⌝ }
 {
-    let m = there(s.len(), at, there(t.len(), from, n));
+    let m = least(left(s.len(), at), least(n, left(t.len(), from)));
     let mut i = 0;
     while i < m {
         s[at + i] = s[at + i] ^ t[from + i];
@@ -71,14 +71,22 @@ pub fn add(s: &mut [u8], at: usize, t: &[u8], from: usize, n: usize)
     }
 }
 
-// How many of n bytes from at on lie in a slice of len bytes.
+// How many of n bytes from at on lie in a slice of len bytes, at most 16.
 fn there(len: usize, at: usize, n: usize) -> usize
-    ensures { λ r. ⌜ r ≡ min n (len - at) ⌝ }
+    ensures { λ r. ⌜ r ≡ min n (min 16 (len - at)) ⌝ }
 {
-    if len <= at {
-        return 0;
+    let l = left(len, at);
+    if l < 16 {
+        return least(n, l);
     }
-    least(n, len - at)
+    least(n, 16)
+}
+
+// How many bytes a slice of len bytes has from at on.
+fn left(len: usize, at: usize) -> usize
+    ensures { λ r. ⌜ r ≡ len - at ⌝ }
+{
+    if len <= at { 0 } else { len - at }
 }
 
 fn least(a: usize, b: usize) -> usize
@@ -91,7 +99,7 @@ fn least(a: usize, b: usize) -> usize
 fn gathered(s: &[u8], at: usize, n: usize, top: u8) -> Block
     ensures { λ r. ⌜ r ≡ halves (number (filled top 16 (part (now (s .entry)) at n))) ⌝ }
 {
-    let m = there(s.len(), at, least(n, 16));
+    let m = there(s.len(), at, n);
     if m < 8 {
         let lo = word(s, at, m, top);
         return Block { lo: lo, hi: 0 };

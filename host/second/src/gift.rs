@@ -159,8 +159,8 @@ pub fn decipher(key: &[u8], block: &mut [u8]) -> u32 {
 #[cfg(test)]
 mod tests {
     use super::*;
-    use crate::gift_cases::PUBLISHED;
-    use crate::lines::field;
+    use crate::cases::gift::PUBLISHED;
+    use crate::lines::{field, Order};
     use crate::random::Random;
 
     /// The round constants as numbers, the first one first.
@@ -214,7 +214,7 @@ mod tests {
     #[test]
     fn published_vectors_both_ways() {
         for (key, plain, cipher) in PUBLISHED {
-            let read = |text: &str| field(text.as_bytes(), 16).expect("a field");
+            let read = |text: &str| field(text.as_bytes(), Order::ByteZeroLast).expect("a field");
             let (key, plain, cipher) = (read(key), read(plain), read(cipher));
             let mut block = plain.clone();
             assert_eq!(encipher(&key, &mut block), 0);

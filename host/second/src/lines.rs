@@ -1,22 +1,42 @@
-//! The text format of the comparison programs: one case on each line, its
-//! fields separated by one space.
+//! The text format of the comparison program: one case on each line. A line
+//! starts with a word that says what to do; its fields follow, and exactly one
+//! space stands between two of these.
 //!
-//! A field is a byte string in lower-case hex, most significant byte first as
-//! the designers of GIFT-128 print, so the last two digits are byte 0. The
-//! empty byte string is `-`.
+//! A field is a byte string in lower-case hex. The empty byte string is `-`.
 
 /// The longest byte string that a field may hold.
-pub const LONGEST_FIELD: usize = 40;
+pub const LONGEST_FIELD: usize = 1152;
 
 /// What is answered for a line that does not have this format.
 pub const BAD_LINE: &str = "bad line";
 
+/// The order in which a field shows its bytes.
+#[derive(Clone, Copy, Debug, PartialEq, Eq)]
+pub enum Order {
+    /// As the RFCs print byte strings.
+    ByteZeroFirst,
+    /// As the designers of GIFT-128 print, most significant byte first, so
+    /// that the last two digits are byte 0.
+    ByteZeroLast,
+}
+
+impl Order {
+    /// Takes the bytes of a string to the order shown, and back.
+    fn turned(self, mut bytes: Vec<u8>) -> Vec<u8> {
+        if self == Order::ByteZeroLast {
+            bytes.reverse();
+        }
+        bytes
+    }
+}
+
 /// Prints `bytes` as a field.
-pub fn print_field(bytes: &[u8]) -> String {
+pub fn print_field(bytes: &[u8], order: Order) -> String {
     if bytes.is_empty() {
         return "-".to_string();
     }
-    bytes.iter().rev().map(|b| format!("{b:02x}")).collect()
+    let shown = order.turned(bytes.to_vec());
+    shown.iter().map(|b| format!("{b:02x}")).collect()
 }
 
 fn digit(c: u8) -> Option<u8> {
@@ -27,25 +47,33 @@ fn digit(c: u8) -> Option<u8> {
     }
 }
 
-/// Reads a field of at most `longest` bytes; nothing if it is no such field.
-pub fn field(text: &[u8], longest: usize) -> Option<Vec<u8>> {
+/// Reads a field; nothing if it is none.
+pub fn field(text: &[u8], order: Order) -> Option<Vec<u8>> {
     if text == b"-" {
         return Some(Vec::new());
     }
-    if text.is_empty() || !text.len().is_multiple_of(2) || text.len() / 2 > longest {
+    if text.is_empty() || !text.len().is_multiple_of(2) || text.len() / 2 > LONGEST_FIELD {
         return None;
     }
     let pair = |two: &[u8]| Some(16 * digit(two[0])? + digit(two[1])?);
-    text.chunks(2).rev().map(pair).collect()
+    let shown: Option<Vec<u8>> = text.chunks(2).map(pair).collect();
+    Some(order.turned(shown?))
 }
 
-/// Reads a line of exactly `N` fields; nothing if it is no such line.
-pub fn fields<const N: usize>(line: &[u8]) -> Option<[Vec<u8>; N]> {
-    let read: Option<Vec<Vec<u8>>> = line
+/// Reads exactly `N` fields; nothing if `text` is something else.
+pub fn fields<const N: usize>(text: &[u8], order: Order) -> Option<[Vec<u8>; N]> {
+    let read: Option<Vec<Vec<u8>>> = text
         .split(|&c| c == b' ')
-        .map(|text| field(text, LONGEST_FIELD))
+        .map(|text| field(text, order))
         .collect();
     read?.try_into().ok()
+}
+
+/// The word of a line and the text of its fields; nothing if there is no space
+/// between them.
+pub fn word_and_fields(line: &[u8]) -> Option<(&[u8], &[u8])> {
+    let space = line.iter().position(|&c| c == b' ')?;
+    Some((&line[..space], &line[space + 1..]))
 }
 
 /// Cuts `input` into lines. Each line ends with a newline; a last piece
@@ -61,34 +89,52 @@ pub fn lines(input: &[u8]) -> Vec<&[u8]> {
 
 #[cfg(test)]
 mod tests {
+    use super::Order::{ByteZeroFirst, ByteZeroLast};
     use super::*;
 
     #[test]
-    fn fields_are_printed_most_significant_byte_first() {
-        assert_eq!(print_field(&[0x01, 0xab, 0xf0]), "f0ab01");
-        assert_eq!(print_field(&[]), "-");
-        assert_eq!(field(b"f0ab01", 40), Some(vec![0x01, 0xab, 0xf0]));
-        assert_eq!(field(b"-", 40), Some(vec![]));
+    fn fields_show_their_bytes_in_either_order() {
+        let bytes = [0x01, 0xab, 0xf0];
+        assert_eq!(print_field(&bytes, ByteZeroFirst), "01abf0");
+        assert_eq!(print_field(&bytes, ByteZeroLast), "f0ab01");
+        assert_eq!(field(b"01abf0", ByteZeroFirst), Some(bytes.to_vec()));
+        assert_eq!(field(b"f0ab01", ByteZeroLast), Some(bytes.to_vec()));
+        for order in [ByteZeroFirst, ByteZeroLast] {
+            assert_eq!(print_field(&[], order), "-");
+            assert_eq!(field(b"-", order), Some(vec![]));
+        }
     }
 
     #[test]
     fn what_is_no_field_is_refused() {
         for text in ["", "a", "abc", "AB", "g0", "0g", "--", "-0", "0x", "\t0"] {
-            assert_eq!(field(text.as_bytes(), 40), None, "{text:?}");
+            assert_eq!(field(text.as_bytes(), ByteZeroFirst), None, "{text:?}");
         }
-        assert_eq!(field("00".repeat(40).as_bytes(), 40), Some(vec![0; 40]));
-        assert_eq!(field("00".repeat(41).as_bytes(), 40), None);
+        let zeros = |len| field("00".repeat(len).as_bytes(), ByteZeroFirst);
+        assert_eq!(zeros(1152), Some(vec![0; 1152]));
+        assert_eq!(zeros(1153), None);
     }
 
     #[test]
-    fn a_line_has_exactly_its_fields() {
-        assert_eq!(fields(b"01 -"), Some([vec![1], vec![]]));
-        for line in ["", " ", "01", "01 ", " 01", "01  02", "01 02 03", "01 02 "] {
-            assert_eq!(fields::<2>(line.as_bytes()), None, "{line:?}");
+    fn fields_are_exactly_as_many_as_asked_for() {
+        let two = |text: &[u8]| fields::<2>(text, ByteZeroFirst);
+        assert_eq!(two(b"01 -"), Some([vec![1], vec![]]));
+        for text in ["", " ", "01", "01 ", " 01", "01  02", "01 02 03", "01 02 "] {
+            assert_eq!(two(text.as_bytes()), None, "{text:?}");
         }
-        assert_eq!(fields::<2>(b"01 02\r"), None);
-        assert_eq!(fields::<2>(b"01\t02"), None);
-        assert_eq!(fields::<2>(b"01 \xff\xff"), None);
+        assert_eq!(two(b"01 02\r"), None);
+        assert_eq!(two(b"01\t02"), None);
+        assert_eq!(two(b"01 \xff\xff"), None);
+    }
+
+    #[test]
+    fn word_ends_at_the_first_space() {
+        let cut = word_and_fields;
+        assert_eq!(cut(b"gift 01 02"), Some((&b"gift"[..], &b"01 02"[..])));
+        assert_eq!(cut(b" gift"), Some((&b""[..], &b"gift"[..])));
+        assert_eq!(cut(b"gift "), Some((&b"gift"[..], &b""[..])));
+        assert_eq!(cut(b"gift"), None);
+        assert_eq!(cut(b""), None);
     }
 
     #[test]

@@ -3,9 +3,9 @@
 use std::io::{self, Read, Write};
 use std::process::ExitCode;
 
-use second::gift_cases;
+use second::cases;
 
-const USAGE: &str = "usage: second gift-cases | second gift-answers <CASES";
+const USAGE: &str = "usage: second cases | second answers <CASES";
 
 fn read_all() -> io::Result<Vec<u8>> {
     let mut input = Vec::new();
@@ -17,8 +17,8 @@ fn read_all() -> io::Result<Vec<u8>> {
 /// command.
 fn run(command: &str) -> io::Result<Option<String>> {
     Ok(match command {
-        "gift-cases" => Some(gift_cases::cases()),
-        "gift-answers" => Some(gift_cases::answers(&read_all()?)),
+        "cases" => Some(cases::cases()),
+        "answers" => Some(cases::answers(&read_all()?)),
         _ => None,
     })
 }

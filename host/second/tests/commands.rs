@@ -20,10 +20,10 @@ fn second(arguments: &[&str], input: &[u8]) -> Output {
 
 #[test]
 fn cases_are_the_same_each_time_and_answered_line_by_line() {
-    let cases = second(&["gift-cases"], b"");
+    let cases = second(&["cases"], b"");
     assert!(cases.status.success());
-    assert_eq!(cases.stdout, second(&["gift-cases"], b"").stdout);
-    let answers = second(&["gift-answers"], &cases.stdout);
+    assert_eq!(cases.stdout, second(&["cases"], b"").stdout);
+    let answers = second(&["answers"], &cases.stdout);
     assert!(answers.status.success());
     let ends = |text: &[u8]| text.iter().filter(|&&c| c == b'\n').count();
     assert_eq!(ends(&answers.stdout), ends(&cases.stdout));
@@ -32,12 +32,13 @@ fn cases_are_the_same_each_time_and_answered_line_by_line() {
 
 #[test]
 fn anything_else_gives_a_usage_line_and_status_2() {
-    let wrong: [&[&str]; 5] = [
+    let wrong: [&[&str]; 6] = [
         &[],
         &[""],
-        &["gift"],
-        &["gift-cases", "more"],
-        &["--gift-cases"],
+        &["case"],
+        &["cases", "more"],
+        &["answers", "more"],
+        &["--cases"],
     ];
     for arguments in wrong {
         let output = second(arguments, b"");

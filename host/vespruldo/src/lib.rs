@@ -21,72 +21,20 @@
 //! # Ok::<(), vespruldo::Refusal>(())
 //! ```
 
+// Why the calls into the archive are safe. Each of its functions reads and
+// writes only the buffers it is handed, each within its length, and wants the
+// one it writes to lie apart from the others. Every call hands over each
+// slice's own pointer and length, the slices are lent for the whole call, and
+// the written one is lent mutably, so no other overlaps it.
+
+mod blake;
+mod chacha;
+mod gift;
+mod lioness;
 mod refusal;
 
+pub use blake::blake2b;
+pub use chacha::chacha20;
+pub use gift::{gift_decipher, gift_encipher};
+pub use lioness::{lioness_decipher, lioness_encipher};
 pub use refusal::Refusal;
-
-/// The archive's own functions.
-mod archive {
-    extern "C" {
-        pub fn vespruldo_gift_encipher(
-            key: *const u8,
-            key_len: usize,
-            block: *mut u8,
-            block_len: usize,
-        ) -> u32;
-        pub fn vespruldo_gift_decipher(
-            key: *const u8,
-            key_len: usize,
-            block: *mut u8,
-            block_len: usize,
-        ) -> u32;
-    }
-}
-
-/// Enciphers `block`, 16 bytes, under `key`, 16 bytes, by GIFT-128. The block
-/// is unchanged if this is refused.
-///
-/// ```
-/// use vespruldo::Refusal;
-///
-/// let mut block = [7; 16];
-/// let refused = vespruldo::gift_encipher(&[0; 15], &mut block);
-/// assert_eq!(refused, Err(Refusal::KeyLength));
-/// assert_eq!(block, [7; 16]);
-/// ```
-///
-/// # Errors
-///
-/// [`Refusal::KeyLength`] if the key is not 16 bytes long; otherwise
-/// [`Refusal::TextLength`] if the block is not.
-pub fn gift_encipher(key: &[u8], block: &mut [u8]) -> Result<(), Refusal> {
-    // SAFETY: each pointer comes with its slice's own length, the slices are
-    // lent for the whole call and, as one is lent mutably, they do not overlap.
-    let number = unsafe {
-        archive::vespruldo_gift_encipher(key.as_ptr(), key.len(), block.as_mut_ptr(), block.len())
-    };
-    refusal::outcome(number)
-}
-
-/// Deciphers `block`, 16 bytes, under `key`, 16 bytes, by GIFT-128: undoes
-/// [`gift_encipher`]. The block is unchanged if this is refused.
-///
-/// ```
-/// use vespruldo::Refusal;
-///
-/// let mut block = [7; 17];
-/// let refused = vespruldo::gift_decipher(&[0; 16], &mut block);
-/// assert_eq!(refused, Err(Refusal::TextLength));
-/// assert_eq!(block, [7; 17]);
-/// ```
-///
-/// # Errors
-///
-/// As for [`gift_encipher`].
-pub fn gift_decipher(key: &[u8], block: &mut [u8]) -> Result<(), Refusal> {
-    // SAFETY: as in `gift_encipher`.
-    let number = unsafe {
-        archive::vespruldo_gift_decipher(key.as_ptr(), key.len(), block.as_mut_ptr(), block.len())
-    };
-    refusal::outcome(number)
-}

@@ -8,9 +8,15 @@ use std::fmt;
 #[derive(Clone, Copy, Debug, PartialEq, Eq, Hash)]
 pub enum Refusal {
     /// Number 1: key has a wrong length.
-    KeyLength,
+    KeyLength = 1,
+    /// Number 2: nonce or iv has a wrong length.
+    NonceLength = 2,
     /// Number 4: text or block length not allowed.
-    TextLength,
+    TextLength = 4,
+    /// Number 6: room too short (digest: not 1 to 64).
+    RoomLength = 6,
+    /// Number 8: key stream: start counter plus blocks needed exceeds 2^32.
+    StreamTooLong = 8,
 }
 
 impl Refusal {
@@ -18,13 +24,10 @@ impl Refusal {
     ///
     /// ```
     /// assert_eq!(vespruldo::Refusal::KeyLength.number(), 1);
-    /// assert_eq!(vespruldo::Refusal::TextLength.number(), 4);
+    /// assert_eq!(vespruldo::Refusal::StreamTooLong.number(), 8);
     /// ```
     pub fn number(self) -> u32 {
-        match self {
-            Refusal::KeyLength => 1,
-            Refusal::TextLength => 4,
-        }
+        self as u32
     }
 }
 
@@ -32,25 +35,30 @@ impl fmt::Display for Refusal {
     fn fmt(&self, f: &mut fmt::Formatter<'_>) -> fmt::Result {
         f.write_str(match self {
             Refusal::KeyLength => "key has a wrong length",
+            Refusal::NonceLength => "nonce or iv has a wrong length",
             Refusal::TextLength => "text or block length not allowed",
+            Refusal::RoomLength => "room too short (digest: not 1 to 64)",
+            Refusal::StreamTooLong => "key stream: start counter plus blocks needed exceeds 2^32",
         })
     }
 }
 
 impl Error for Refusal {}
 
-/// What the archive's number means.
+/// What a number means that comes from a function of the archive which promises
+/// these refusals.
 ///
 /// # Panics
 ///
-/// On a number that the archive does not promise. To take it for success or
+/// On a number that the function does not promise. To take it for success or
 /// for some refusal would claim something about the buffers that nobody knows.
-pub(crate) fn outcome(number: u32) -> Result<(), Refusal> {
-    match number {
-        0 => Ok(()),
-        1 => Err(Refusal::KeyLength),
-        4 => Err(Refusal::TextLength),
-        _ => panic!("the archive answered {number}, a number that it does not promise"),
+pub(crate) fn outcome(number: u32, promised: &[Refusal]) -> Result<(), Refusal> {
+    if number == 0 {
+        return Ok(());
+    }
+    match promised.iter().find(|refusal| refusal.number() == number) {
+        Some(refusal) => Err(*refusal),
+        None => panic!("the archive answered {number}, a number that it does not promise"),
     }
 }
 
@@ -58,14 +66,28 @@ pub(crate) fn outcome(number: u32) -> Result<(), Refusal> {
 mod tests {
     use super::*;
 
+    const TABLE: [(u32, Refusal, &str); 5] = [
+        (1, Refusal::KeyLength, "key has a wrong length"),
+        (2, Refusal::NonceLength, "nonce or iv has a wrong length"),
+        (4, Refusal::TextLength, "text or block length not allowed"),
+        (
+            6,
+            Refusal::RoomLength,
+            "room too short (digest: not 1 to 64)",
+        ),
+        (
+            8,
+            Refusal::StreamTooLong,
+            "key stream: start counter plus blocks needed exceeds 2^32",
+        ),
+    ];
+
     #[test]
     fn numbers_and_words_are_the_documents() {
-        assert_eq!(outcome(0), Ok(()));
-        for (number, words) in [
-            (1, "key has a wrong length"),
-            (4, "text or block length not allowed"),
-        ] {
-            let refusal = outcome(number).expect_err("a refusal");
+        let all = TABLE.map(|(_, refusal, _)| refusal);
+        assert_eq!(outcome(0, &all), Ok(()));
+        for (number, refusal, words) in TABLE {
+            assert_eq!(outcome(number, &all), Err(refusal));
             assert_eq!(refusal.number(), number);
             assert_eq!(refusal.to_string(), words);
         }
@@ -74,6 +96,6 @@ mod tests {
     #[test]
     #[should_panic(expected = "the archive answered 2,")]
     fn a_number_not_promised_is_not_swallowed() {
-        let _ = outcome(2);
+        let _ = outcome(2, &[Refusal::KeyLength, Refusal::TextLength]);
     }
 }

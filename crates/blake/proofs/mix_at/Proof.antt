@@ -1,6 +1,4 @@
-use Prim.Native.Nat.{ℕ}
-use mathlib.Core.Path.{ap₂, _∙_}
-use Rattle.blake.specs.Blake.{mixed}
+use Rattle.blake.proofs.Mixing.{mixes}
 use borrow.Author.Needs.{needs}
 use Rattle.blake.proofs.mix_at.Statement.{statement}
 use Rattle.blake.proofs.mix_at.Tie as tie
@@ -26,7 +24,7 @@ mix-requires c κs = search needs
 returns : tie.Need-returns
 returns c =
     let a = c .before .before .before .args in
-    c .mix .ensures ∙ ap₂ (λ (x y : ℕ). mixed (a .a) (a .b) (a .c) (a .d) x y) (c .before .before .word-of .ensures) (c .before .word-of2 .ensures)
+    mixes (a .a) (a .b) (a .c) (a .d) (c .mix .ensures) (c .before .before .word-of .ensures) (c .before .word-of2 .ensures)
 
 pub mix-at-spec : {M : Type 1} → statement M
 mix-at-spec =

@@ -1,78 +1,68 @@
-use Prim.Native.Nat.{ℕ, _-_, _*_, _≤_, _<_}
-use mathlib.Core.Path.{_≡_, refl, _∙_}
-use native.Mathlib.Nat.{not-suc-le-zero}
+use Prim.Native.Nat.{ℕ}
+use mathlib.Core.Path.{refl, ap, _∙_}
+use mathlib.Core.List.{List}
 use native.Mathlib.Omega.{arith}
 use denote.Ref.{now}
-use lib.ListN.{length, getD, length-set}
-use Rattle.words.specs.Block.{part}
-use Rattle.words.specs.Bytes.{number}
 use Rattle.words.specs.Words.{words}
-use Rattle.words.proofs.Lists.{fill-turn, fill-end}
 use Rattle.blake.specs.Blake.{padded}
-use Rattle.blake.proofs.Hashing.{word-is}
+use Rattle.blake.proofs.Hashing.{whole-part, rest-part}
 use borrow.Author.Needs.{needs}
 use Rattle.blake.proofs.words_of.Statement.{statement}
 use Rattle.blake.proofs.words_of.Tie as tie
 
-abbrev Inv-loop : tie.InvT-loop
-Inv-loop s at m₀ i₀ m i =
-    (i ≤ 16) × (length m ≡ 16) × ((j : ℕ) → j < i → getD m j 0 ≡ number (part (padded (part s at 128)) (8 * j) 8))
+sub-if1 : tie.Need-sub-if1
+sub-if1 c = search needs
 
-abbrev μ-loop : tie.MeasureT-loop
-μ-loop s at m₀ i₀ m i = 16 - i
+add-end : tie.Need-add-end
+add-end c = search needs
 
-loop-holds : tie.Need-loop-holds Inv-loop μ-loop
-loop-holds c = (omega arith, refl, λ j h. absurd (not-suc-le-zero h))
+sub-words-in : tie.Need-sub-words-in
+sub-words-in c = search needs
 
-mul-load : tie.Need-mul-load Inv-loop μ-loop
-mul-load c = search needs
+part-words-in-start : tie.Need-part-words-in-start
+part-words-in-start c = search needs
 
-add-load : tie.Need-add-load Inv-loop μ-loop
-add-load c = search needs
+part-words-in-end : tie.Need-part-words-in-end
+part-words-in-end c = search needs
 
-load-requires : tie.Need-load-requires Inv-loop μ-loop
-load-requires c κs = search needs
+words-in-requires : tie.Need-words-in-requires
+words-in-requires c κs = search needs
 
-mul-m : tie.Need-mul-m Inv-loop μ-loop
-mul-m c = search needs
-
-array-write-m : tie.Need-array-write-m Inv-loop μ-loop
-array-write-m c = search needs
-
-add-i : tie.Need-add-i Inv-loop μ-loop
-add-i c = search needs
-
-loop-less : tie.Need-loop-less Inv-loop μ-loop
-loop-less c = search needs
-
-loop-again : tie.Need-loop-again Inv-loop μ-loop
-loop-again c =
-    let l = c .before .before .loop in
-    let d = c .before .before .before in
-    let a = d .before .args in
-    let e = word-is (now (a .s)) (λ k. omega (arith, d .shared-slice-known .given k)) (a .at) (l .i) (omega arith) (c .load .ensures) in
-    (omega arith, length-set (l .m) (l .i) _ ∙ l .inv .1, fill-turn _ 0 (l .m) (l .i) _ (omega arith) (l .inv .2) e)
-
-returns : tie.Need-returns Inv-loop μ-loop
-unfolding words
+returns : tie.Need-returns
 returns c =
-    let l = c .before .loop in
-    let e : l .i ≡ 16 = omega arith in
-    fill-end _ 0 (l .m) 16 (l .inv .1) (rw e at (l .inv .2))
+    let a = c .before .before .before .before .args in
+    c .words-in .ensures ∙ ap (λ (l : List ℕ). words 8 16 (padded l)) (whole-part (now (a .s)) (a .at) _ refl)
+
+sub-words-in-2 : tie.Need-sub-words-in-2
+sub-words-in-2 c = search needs
+
+part-words-in-start-2 : tie.Need-part-words-in-start-2
+part-words-in-start-2 c = search needs
+
+part-words-in-end-2 : tie.Need-part-words-in-end-2
+part-words-in-end-2 c = search needs
+
+words-in-requires-2 : tie.Need-words-in-requires-2
+words-in-requires-2 c κs = search needs
+
+returns-2 : tie.Need-returns-2
+returns-2 c =
+    let a = c .before .before .before .before .args in
+    c .words-in2 .ensures ∙ ap (λ (l : List ℕ). words 8 16 (padded l)) (rest-part (now (a .s)) (a .at) (omega arith))
 
 pub words-of-spec : {M : Type 1} → statement M
 words-of-spec =
     tie.close
     (tie.spec
-    Inv-loop
-    μ-loop
-    loop-holds
-    mul-load
-    add-load
-    load-requires
-    mul-m
-    array-write-m
-    add-i
-    loop-less
-    loop-again
-    returns)
+    sub-if1
+    add-end
+    sub-words-in
+    part-words-in-start
+    part-words-in-end
+    words-in-requires
+    returns
+    sub-words-in-2
+    part-words-in-start-2
+    part-words-in-end-2
+    words-in-requires-2
+    returns-2)

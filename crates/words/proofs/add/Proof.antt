@@ -1,5 +1,5 @@
-use Prim.Native.Nat.{_+_, _-_, _≤_}
-use mathlib.Core.Path.{_≡_, refl, sym, _∙_}
+use Prim.Native.Nat.{ℕ, _+_, _-_, _≤_, min}
+use mathlib.Core.Path.{_≡_, refl, sym, ap, ap₂, _∙_}
 use native.Mathlib.Nat.{add-zero}
 use native.Mathlib.Omega.{arith}
 use denote.Ref.{now}
@@ -18,11 +18,17 @@ Inv-loop s₀ at t from n m i₀ s i =
 abbrev μ-loop : tie.MeasureT-loop
 μ-loop s₀ at t from n m i₀ s i = m - i
 
-there-requires : tie.Need-there-requires Inv-loop μ-loop
-there-requires c κs = search needs
+left-requires : tie.Need-left-requires Inv-loop μ-loop
+left-requires c κs = search needs
 
-there-requires-2 : tie.Need-there-requires-2 Inv-loop μ-loop
-there-requires-2 c κs = search needs
+left-requires-2 : tie.Need-left-requires-2 Inv-loop μ-loop
+left-requires-2 c κs = search needs
+
+least-requires : tie.Need-least-requires Inv-loop μ-loop
+least-requires c κs = search needs
+
+least-requires-2 : tie.Need-least-requires-2 Inv-loop μ-loop
+least-requires-2 c κs = search needs
 
 loop-holds : tie.Need-loop-holds Inv-loop μ-loop
 loop-holds c = (omega arith, refl, rw add-zero)
@@ -55,7 +61,7 @@ loop-again : tie.Need-loop-again Inv-loop μ-loop
 loop-again c =
     let d = c .before .before .before in
     let l = d .loop in
-    let a = d .before .before .before .before .before .args in
+    let a = d .before .before .before .before .before .before .before .args in
     (search needs, simp length-set (l .inv .1), plusAt-turn (now (a .t)) (a .from) (a .n) (a .at) (l .i) (l .s) _ (omega arith) (omega arith) (omega arith) (l .inv .2))
 
 same-length : tie.Need-same-length Inv-loop μ-loop
@@ -64,8 +70,12 @@ same-length c = c .before .loop .inv .1
 returns : tie.Need-returns Inv-loop μ-loop
 returns c =
     let l = c .before .loop in
-    let a = c .before .before .before .before .before .before .args in
-    sym (plusAt-end (now (a .t)) (a .from) (a .n) (a .at) (l .i) (l .s) (omega arith)) ∙ l .inv .2
+    let d = c .before .before in
+    let a = d .before .before .before .before .before .before .args in
+    let e = d .least2 .ensures ∙ ap₂ min (d .before .before .before .left .ensures) (d .before .least .ensures ∙ ap (min (a .n)) (d .before .before .left2 .ensures)) in
+    let f : min (length (now (a .s)) - a .at) (min (a .n) (length (now (a .t)) - a .from)) ≡ min (length (l .s) - a .at) (min (a .n) (length (now (a .t)) - a .from)) =
+    ap (λ (k : ℕ). min (k - a .at) (min (a .n) (length (now (a .t)) - a .from))) (sym (l .inv .1)) in
+    sym (plusAt-end (now (a .t)) (a .from) (a .n) (a .at) (l .i) (l .s) _ (e ∙ f) (c .loop-test .left)) ∙ l .inv .2
 
 pub add-spec : {M : Type 1} → statement M
 add-spec =
@@ -73,8 +83,10 @@ add-spec =
     (tie.spec
     Inv-loop
     μ-loop
-    there-requires
-    there-requires-2
+    left-requires
+    left-requires-2
+    least-requires
+    least-requires-2
     loop-holds
     add-s
     slice-read-s

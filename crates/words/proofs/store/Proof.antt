@@ -10,9 +10,6 @@ use Rattle.words.proofs.Blocks.{stored-short, stored-long}
 use Rattle.words.proofs.store.Statement.{statement}
 use Rattle.words.proofs.store.Tie as tie
 
-least-requires : tie.Need-least-requires
-least-requires c κs = search needs
-
 there-requires : tie.Need-there-requires
 there-requires c κs = search needs
 
@@ -24,9 +21,9 @@ same-length c = search needs
 
 returns : tie.Need-returns
 returns c =
-    let d = c .before .before .before .before .before .before .before in
+    let d = c .before .before .before .before .before .before in
     let a = d .before .args in
-    c .before .before .put .ensures ∙ sym (stored-short (now (a .s)) (a .b) (omega arith) (a .at) (a .n) _ (omega arith) (omega arith))
+    c .before .before .put .ensures ∙ sym (stored-short (now (a .s)) (a .b) (omega arith) (a .at) (a .n) _ (c .before .before .before .before .before .there .ensures) (omega arith))
 
 put-requires-2 : tie.Need-put-requires-2
 put-requires-2 c κs = search needs
@@ -45,18 +42,17 @@ same-length-2 c = search needs
 
 returns-2 : tie.Need-returns-2
 returns-2 c =
-    let d = c .before .before .before .before .before .before .before .before .before .before .before in
+    let d = c .before .before .before .before .before .before .before .before .before .before in
     let a = d .before .args in
     let m = c .before .before .before .before .before .before .before .before .before .there .result in
     c .before .before .put3 .ensures
     ∙ ap (λ (l : List ℕ). sets l (a .at + 8) (bytes (m - 8) (a .b .hi))) (c .before .before .before .before .before .before .put2 .ensures)
-    ∙ sym (stored-long (now (a .s)) (a .b) (omega arith) (a .at) (a .n) _ (omega arith) (omega arith))
+    ∙ sym (stored-long (now (a .s)) (a .b) (omega arith) (a .at) (a .n) _ (c .before .before .before .before .before .before .before .before .before .there .ensures) (omega arith))
 
 pub store-spec : {M : Type 1} → statement M
 store-spec =
     tie.close
     (tie.spec
-    least-requires
     there-requires
     put-requires
     same-length

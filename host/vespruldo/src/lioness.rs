@@ -1,0 +1,90 @@
+//! LIONESS on a wide block.
+
+use crate::refusal::{outcome, Refusal};
+
+extern "C" {
+    fn vespruldo_lioness_encipher(
+        key: *const u8,
+        key_len: usize,
+        iv: *const u8,
+        iv_len: usize,
+        block: *mut u8,
+        block_len: usize,
+    ) -> u32;
+    fn vespruldo_lioness_decipher(
+        key: *const u8,
+        key_len: usize,
+        iv: *const u8,
+        iv_len: usize,
+        block: *mut u8,
+        block_len: usize,
+    ) -> u32;
+}
+
+/// What may be refused.
+const PROMISED: [Refusal; 3] = [
+    Refusal::KeyLength,
+    Refusal::NonceLength,
+    Refusal::TextLength,
+];
+
+/// Either of the archive's functions above.
+type OneWay = unsafe extern "C" fn(*const u8, usize, *const u8, usize, *mut u8, usize) -> u32;
+
+fn call(one_way: OneWay, key: &[u8], iv: &[u8], block: &mut [u8]) -> Result<(), Refusal> {
+    // SAFETY: see the crate's root.
+    let number = unsafe {
+        one_way(
+            key.as_ptr(),
+            key.len(),
+            iv.as_ptr(),
+            iv.len(),
+            block.as_mut_ptr(),
+            block.len(),
+        )
+    };
+    outcome(number, &PROMISED)
+}
+
+/// Enciphers `block`, 33 to 1,048,608 bytes, where it lies, under `key`, 128
+/// bytes, and `iv`, 48 bytes, by LIONESS. The block is unchanged if this is
+/// refused.
+///
+/// ```
+/// let plain = *b"forty bytes: a wide block is one of them";
+/// let mut block = plain;
+///
+/// vespruldo::lioness_encipher(&[1; 128], &[2; 48], &mut block)?;
+/// assert_ne!(block, plain);
+/// vespruldo::lioness_decipher(&[1; 128], &[2; 48], &mut block)?;
+/// assert_eq!(block, plain);
+/// # Ok::<(), vespruldo::Refusal>(())
+/// ```
+///
+/// # Errors
+///
+/// The first of these that applies: [`Refusal::KeyLength`] if the key is not
+/// 128 bytes long, [`Refusal::NonceLength`] if the iv is not 48 bytes long,
+/// [`Refusal::TextLength`] if the block is not 33 to 1,048,608 bytes long.
+pub fn lioness_encipher(key: &[u8], iv: &[u8], block: &mut [u8]) -> Result<(), Refusal> {
+    call(vespruldo_lioness_encipher, key, iv, block)
+}
+
+/// Deciphers `block` where it lies by LIONESS: undoes [`lioness_encipher`]
+/// under the same key and iv. The block is unchanged if this is refused.
+///
+/// ```
+/// use vespruldo::Refusal;
+///
+/// let mut block = [7; 32];
+/// let refused = vespruldo::lioness_decipher(&[1; 128], &[2; 48], &mut block);
+/// assert_eq!(refused, Err(Refusal::TextLength));
+/// assert_eq!(block, [7; 32]);
+/// ```
+///
+/// # Errors
+///
+/// As for [`lioness_encipher`].
+pub fn lioness_decipher(key: &[u8], iv: &[u8], block: &mut [u8]) -> Result<(), Refusal> {
+    call(vespruldo_lioness_decipher, key, iv, block)
+}
