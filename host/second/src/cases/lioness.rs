@@ -80,7 +80,7 @@ mod tests {
         let hex = |bytes: &[u8]| -> String { bytes.iter().map(|b| format!("{b:02x}")).collect() };
         let [c, d, b] = [&enciphered, &deciphered, &block].map(|bytes| hex(bytes));
         let line = format!("lioness {} {} {b}", hex(&key), hex(&iv));
-        assert_eq!(answer(line.as_bytes()), format!("0 {c} 0 {d} 0 {b}"));
+        assert_eq!(answer(line.as_bytes()), format!("0 {c} 0 {b} 0 {d}"));
     }
 
     #[test]

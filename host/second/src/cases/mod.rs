@@ -48,22 +48,21 @@ pub fn answers(input: &[u8]) -> String {
 }
 
 /// The answer for a block that goes both ways: the number and the block's
-/// bytes after enciphering the block, after deciphering it, and after
-/// deciphering the enciphered one.
+/// bytes after enciphering it, after deciphering that, and after deciphering
+/// once more.
 fn both_ways(
     block: &[u8],
     order: Order,
     encipher: impl Fn(&mut [u8]) -> u32,
     decipher: impl Fn(&mut [u8]) -> u32,
 ) -> String {
-    let mut enciphered = block.to_vec();
-    let n1 = encipher(&mut enciphered);
-    let mut deciphered = block.to_vec();
-    let n2 = decipher(&mut deciphered);
-    let mut back = enciphered.clone();
-    let n3 = decipher(&mut back);
-    let [c, d, b] = [enciphered, deciphered, back].map(|bytes| print_field(&bytes, order));
-    format!("{n1} {c} {n2} {d} {n3} {b}")
+    let mut block = block.to_vec();
+    let steps: [&dyn Fn(&mut [u8]) -> u32; 3] = [&encipher, &decipher, &decipher];
+    let answers = steps.map(|step| {
+        let number = step(&mut block);
+        format!("{number} {}", print_field(&block, order))
+    });
+    answers.join(" ")
 }
 
 /// The bytes of a published value printed byte 0 first.

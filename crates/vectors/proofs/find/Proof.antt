@@ -1,7 +1,7 @@
-use native.Mathlib.Omega.{arith}
 use Prim.Native.Nat.{_-_, _≤_}
-use Rattle.gift_vectors.proofs.find.Statement.{statement}
-use Rattle.gift_vectors.proofs.find.Tie as tie
+use native.Mathlib.Omega.{arith}
+use Rattle.vectors.proofs.find.Statement.{statement}
+use Rattle.vectors.proofs.find.Tie as tie
 
 abbrev Inv-loop : tie.InvT-loop
 Inv-loop s at end b i₀ i = (at ≤ i) × (i ≤ end)
