@@ -1,3 +1,4 @@
 pub mod Inverse
 pub mod Steps
 pub mod Undone
+pub mod Single

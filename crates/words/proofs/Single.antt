@@ -5,7 +5,8 @@ use mathlib.Core.List.{List}
 use Prim.Native.Nat.{ℕ}
 use lib.Bits.{bitXor}
 use Rattle.words.specs.declared.Block.{Block}
-use Rattle.words.specs.Block.{value, halves, loaded, loadedPad, stored}
+use Rattle.words.specs.Block.{value, halves, part, loaded, loadedPad, stored}
+use Rattle.words.specs.Bytes.{plusAt}
 use Rattle.words.proofs.Refusals.{same}
 
 pub wide-single : (x : ℕ) {r s : ℕ} → r ≡ x → s ≡ x → r ≡ s
@@ -22,3 +23,6 @@ load-pad-single s at n = same
 
 pub store-single : (s : List ℕ) (at n : ℕ) (x : Block) {a b : List ℕ} → a ≡ stored s at n (value x) → b ≡ stored s at n (value x) → a ≡ b
 store-single s at n x = same
+
+pub add-single : (s : List ℕ) (at : ℕ) (t : List ℕ) (from n : ℕ) {a b : List ℕ} → a ≡ plusAt at s (part t from n) → b ≡ plusAt at s (part t from n) → a ≡ b
+add-single s at t from n = same
