@@ -13,7 +13,7 @@ use Rattle.words.specs.Words.{words, unwords}
 use Rattle.words.proofs.Lists.{tab-at, length-tab, listed, sets-whole}
 use Rattle.words.proofs.WordLists.{length-unwords, words-first}
 use Rattle.chacha.specs.declared.Quad.{Quad}
-use Rattle.chacha.specs.ChaCha.{quarter, quarterRound, doubleRound, rounds, start, sums, blockFrom}
+use Rattle.chacha.specs.ChaCha.{quarter, quarterRound, doubleRound, rounds, startState, sums, blockFrom}
 
 pub quarter-is : (a b c d a₁ d₁ c₁ b₁ a₂ d₂ c₂ b₂ : ℕ)
     → a₁ ≡ sumMod 32 a b → d₁ ≡ rotl 32 16 (bitXor d a₁) → c₁ ≡ sumMod 32 c d₁ → b₁ ≡ rotl 32 12 (bitXor b c₁)
@@ -51,12 +51,12 @@ unfolding rounds
 rounds-next n s t u e f = rw (add-one, f, e)
 
 -- the start differs in the counter alone
-pub start-set : (key nonce : List ℕ) (c₀ c : ℕ) → set (start key nonce c₀) 12 c ≡ start key nonce c
-unfolding start words tab
+pub start-set : (key nonce : List ℕ) (c₀ c : ℕ) → set (startState key nonce c₀) 12 c ≡ startState key nonce c
+unfolding startState words tab
 start-set key nonce c₀ c = refl
 
-pub length-start : (key nonce : List ℕ) (c : ℕ) → length (start key nonce c) ≡ 16
-unfolding start words tab
+pub length-start : (key nonce : List ℕ) (c : ℕ) → length (startState key nonce c) ≡ 16
+unfolding startState words tab
 length-start key nonce c = refl
 
 -- ---- the block's words

@@ -11,10 +11,11 @@ use lib.Seq.{take-all}
 use borrow.Author.Tests.{eq-eqb, le-ltb}
 use Rattle.words.specs.Block.{part}
 use Rattle.words.specs.Bytes.{plus, plusAt}
-use Rattle.words.specs.Refuse.{Answer, answered}
+use Rattle.words.specs.Refuse.{answered}
+use Rattle.words.proofs.Refusals.{undone}
 use Rattle.words.proofs.Plus.{length-plus, plus-twice, plus-append, plusAt-first, plusAt-none, plusAt-append}
-use Rattle.chacha.specs.ChaCha.{block, blocks, start, keyStream, stream}
-use Rattle.chacha.specs.Entry.{streaming}
+use Rattle.chacha.specs.ChaCha.{block, blocks, startState, keyStream, stream}
+use Rattle.chacha.specs.Entry.{refusals, streaming}
 use Rattle.chacha.proofs.Rounds.{length-block}
 
 -- ---- the loop
@@ -28,7 +29,7 @@ pub stream-turn : (key nonce text text′ k l : List ℕ) (c i m n : ℕ) → k 
 unfolding keyStream
 stream-turn key nonce text text′ k l c i m n ek et em e =
     let b = block key nonce c in
-    let lb : length b ≡ 64 = length-block (start key nonce c) in
+    let lb : length b ≡ 64 = length-block (startState key nonce c) in
     let eb : part k 0 64 ≡ b = ap (λ (x : List ℕ). part x 0 64) ek ∙ take-all 64 b (omega arith) in
     let next : plusAt (i + 64) (plusAt i text b) (keyStream key nonce (suc c) n) ≡ plusAt i text (b ++ keyStream key nonce (suc c) n) =
     ap (λ (x : ℕ). plusAt (i + x) (plusAt i text b) (keyStream key nonce (suc c) n)) (sym lb) ∙ plusAt-append i text b (keyStream key nonce (suc c) n) in
@@ -56,7 +57,7 @@ module _ (key nonce : List ℕ) where
   unfolding keyStream
   length-keyStream counter zero = refl
   length-keyStream counter (suc n) =
-      rw (length-append, length-block (start key nonce counter), length-keyStream (suc counter) n) (omega arith)
+      rw (length-append, length-block (startState key nonce counter), length-keyStream (suc counter) n) (omega arith)
 
   keyStream-append : (counter m n : ℕ) → keyStream key nonce counter (m + n) ≡ keyStream key nonce counter m ++ keyStream key nonce (counter + m) n
   unfolding keyStream
@@ -74,7 +75,17 @@ module _ (key nonce : List ℕ) where
       rw (eab, ea, keyStream-append counter m (blocks (length b)))
       (plus-append a b (keyStream key nonce counter m) (keyStream key nonce (counter + m) (blocks (length b))) (e ∙ sym (length-keyStream counter m)))
 
--- ---- the entry point, where nothing is refused
+-- ---- the entry point
+
+-- called twice it answers the same number and gives the text back, refused or not
+pub streaming-twice : (key nonce text : List ℕ) (counter : ℕ)
+    → streaming key nonce counter (streaming key nonce counter text .left) ≡ answered (streaming key nonce counter text .number) text
+unfolding streaming
+streaming-twice key nonce text counter =
+    undone (refusals key nonce counter) (stream key nonce counter) (stream key nonce counter) text
+    (λ c. rw (length-stream key nonce text counter)) (λ c. stream-twice key nonce text counter)
+
+-- where nothing is refused
 
 pub streaming-done : (key nonce text : List ℕ) (counter : ℕ) → length key ≡ 32 → length nonce ≡ 12 → length text ≤ 1048576 → counter + blocks (length text) ≤ 2 ^ 32
     → streaming key nonce counter text ≡ answered 0 (stream key nonce counter text)

@@ -51,8 +51,8 @@ rounds zero s = s
 rounds (suc n) s = doubleRound (rounds n s)
 
 -- four constants, the key in eight words, the block counter, the nonce in three
-unfoldable pub start : List ℕ → List ℕ → ℕ → List ℕ
-start key nonce counter =
+unfoldable pub startState : List ℕ → List ℕ → ℕ → List ℕ
+startState key nonce counter =
     0x61707865 ∷ 0x3320646e ∷ 0x79622d32 ∷ 0x6b206574 ∷ words 4 8 key ++ (counter ∷ words 4 3 nonce)
 
 -- word by word
@@ -64,7 +64,7 @@ unfoldable pub blockFrom : List ℕ → List ℕ
 blockFrom s = unwords 4 (sums s (rounds 10 s))
 
 abbrev pub block : List ℕ → List ℕ → ℕ → List ℕ
-block key nonce counter = blockFrom (start key nonce counter)
+block key nonce counter = blockFrom (startState key nonce counter)
 
 -- ---- 2.4, the key stream, and a text to which it is added
 

@@ -8,12 +8,12 @@ ghost use Rattle.words.specs.Block.{part};
 ghost use Rattle.words.specs.Bytes.{number};
 ghost use Rattle.words.specs.Digits.{rotl};
 ghost use Rattle.words.specs.Refuse.{answered};
-ghost use Rattle.chacha.specs.ChaCha.{quarter, doubleRound, rounds, start, blockFrom, blocks, stream};
+ghost use Rattle.chacha.specs.ChaCha.{quarter, doubleRound, rounds, startState, blockFrom, blocks, stream};
 ghost use Rattle.chacha.specs.Entry.{streaming};
 
-// Adds the key stream, from block `counter` on, to text in place. Answers 0, or the refusal.
-pub fn stream(key: &[u8], nonce: &[u8], counter: u32, text: &mut [u8]) -> u32
-    ensures { λ r. ⌜ answered r (now (text .exit)) ≡ streaming (now (key .entry)) (now (nonce .entry)) counter (now (text .entry)) ⌝ }
+// Adds the key stream, from block `start` on, to text in place. Answers 0, or the refusal.
+pub fn stream(key: &[u8], nonce: &[u8], start: u32, text: &mut [u8]) -> u32
+    ensures { λ r. ⌜ answered r (now (text .exit)) ≡ streaming (now (key .entry)) (now (nonce .entry)) start (now (text .entry)) ⌝ }
 {
     if key.len() != 32 {
         return 1;
@@ -24,10 +24,10 @@ pub fn stream(key: &[u8], nonce: &[u8], counter: u32, text: &mut [u8]) -> u32
     if text.len() > 1048576 {
         return 4;
     }
-    if counter as u64 + (text.len() as u64 + 63) / 64 > 4294967296 {
+    if start as u64 + (text.len() as u64 + 63) / 64 > 4294967296 {
         return 8;
     }
-    stream_from(key, nonce, counter as u64, text);
+    stream_from(key, nonce, start as u64, text);
     0
 }
 
@@ -52,7 +52,7 @@ fn stream_from(key: &[u8], nonce: &[u8], counter: u64, text: &mut [u8]) -> u64
 
 // The start, with counter 0.
 fn start_of(key: &[u8], nonce: &[u8]) -> [u32; 16]
-    ensures { λ r. ⌜ r ≡ start (now (key .entry)) (now (nonce .entry)) 0 ⌝ }
+    ensures { λ r. ⌜ r ≡ startState (now (key .entry)) (now (nonce .entry)) 0 ⌝ }
 {
     [
         0x61707865,

@@ -4,8 +4,7 @@ use mathlib.Core.Path.{_≡_, sym, ap, ap₂, _∙_, subst}
 use mathlib.Core.Bool.{Bool, true, false, not}
 use mathlib.Core.List.{List}
 use Prim.Native.Nat.{ℕ, _^_, _<_}
-use native.Nat.{ℕᴺ-discrete}
-use borrow.Author.Tests.{eq-eqb, ne-eqb}
+use borrow.Author.Tests.{eqb-true, not-false, eq-eqb, ne-eqb}
 use lib.ListN.{length}
 use Rattle.words.specs.declared.Block.{Block}
 use Rattle.words.specs.Block.{value, halves, loaded, stored}
@@ -14,9 +13,10 @@ use Rattle.words.specs.Refuse.{answered}
 use Rattle.words.proofs.Blocks.{value-halves, value-is, loaded-all, stored-all}
 use Rattle.words.proofs.Bytes.{length-bytes, number-bytes, bytes-number, number-lt}
 use Rattle.words.proofs.Lists.{tab-at}
+use Rattle.words.proofs.Refusals.{Clear, undone}
 use Rattle.gift.specs.declared.Additions.{Additions}
 use Rattle.gift.specs.Gift.{added, forty, cipher, encipher, decipher}
-use Rattle.gift.specs.Entry.{additions, addition, enciphers, deciphers, crypting, enciphering, deciphering}
+use Rattle.gift.specs.Entry.{additions, addition, enciphers, deciphers, refusals, crypting, enciphering, deciphering}
 use Rattle.gift.proofs.Inverse.{forty-same, cipher-lt, cipher-undone}
 
 -- ---- the additions, worked out, are those of the rounds
@@ -68,36 +68,32 @@ module _ (back : Bool) (key block : List ℕ) where
 -- ---- each undoes the other, on every input: what is refused is left as it was
 
 module _ (back : Bool) (key block : List ℕ) (are : Bytes block) where
-  undone-done : length key ≡ 16 → length block ≡ 16 → crypting (not back) key (crypting back key block .left) .left ≡ block
-  undone-done hk hb =
+  -- what comes of the block, each way
+  there : Bool → List ℕ → List ℕ
+  there b x = bytes 16 (cipher b (number key) (number x))
+
+  full : Clear (refusals key block) → length block ≡ 16
+  full c = eqb-true _ _ (not-false _ (c .1 .0))
+
+  there-back : length block ≡ 16 → there (not back) (there back block) ≡ block
+  unfolding there
+  there-back hb =
       let k = number key in
       let x = number block in
-      let y = cipher back k x in
       let hx : x < 2 ^ 128 = subst (λ (n : ℕ). x < 256 ^ n) hb (number-lt block are) in
-      ap (λ r. crypting (not back) key (r .left) .left) (sym (done back key block hk hb))
-      ∙ ap (λ r. r .left) (sym (done (not back) key (bytes 16 y) hk (length-bytes 16 y)))
-      ∙ ap (λ (z : ℕ). bytes 16 (cipher (not back) k z)) (number-bytes 16 y (cipher-lt back k x hx))
+      ap (λ (z : ℕ). bytes 16 (cipher (not back) k z)) (number-bytes 16 (cipher back k x) (cipher-lt back k x hx))
       ∙ ap (bytes 16) (cipher-undone back k x hx)
       ∙ ap (λ (n : ℕ). bytes n x) (sym hb)
       ∙ bytes-number block are
 
-  undone-kept : {n : ℕ} → answered n block ≡ crypting back key block → answered n block ≡ crypting (not back) key block
-      → crypting (not back) key (crypting back key block .left) .left ≡ block
-  undone-kept p q = ap (λ r. crypting (not back) key (r .left) .left) (sym p) ∙ ap (λ r. r .left) (sym q)
+  crypting-undone : crypting (not back) key (crypting back key block .left) ≡ answered (crypting back key block .number) block
+  unfolding crypting there
+  crypting-undone =
+      undone (refusals key) (there back) (there (not back)) block
+      (λ c. rw (length-bytes 16 (cipher back (number key) (number block)), full c)) (λ c. there-back (full c))
 
-  pub undone : crypting (not back) key (crypting back key block .left) .left ≡ block
-  undone =
-      elim (ℕᴺ-discrete (length key) 16) [
-        | yes hk ↦
-            elim (ℕᴺ-discrete (length block) 16) [
-              | yes hb ↦ undone-done hk hb
-              | no hb ↦ undone-kept (refused-block back key block hk hb) (refused-block (not back) key block hk hb)
-            ]
-        | no hk ↦ undone-kept (refused-key back key block hk) (refused-key (not back) key block hk)
-      ]
+pub deciphering-enciphering : (key block : List ℕ) → Bytes block → deciphering key (enciphering key block .left) ≡ answered (enciphering key block .number) block
+deciphering-enciphering = crypting-undone false
 
-pub deciphering-enciphering : (key block : List ℕ) → Bytes block → deciphering key (enciphering key block .left) .left ≡ block
-deciphering-enciphering = undone false
-
-pub enciphering-deciphering : (key block : List ℕ) → Bytes block → enciphering key (deciphering key block .left) .left ≡ block
-enciphering-deciphering = undone true
+pub enciphering-deciphering : (key block : List ℕ) → Bytes block → enciphering key (deciphering key block .left) ≡ answered (deciphering key block .number) block
+enciphering-deciphering = crypting-undone true

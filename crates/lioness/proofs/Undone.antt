@@ -1,43 +1,35 @@
 -- Enciphering and deciphering, as the entry points answer, undo each other: for every key, iv and block, refused or not.
 -- Assumes nothing.
-use mathlib.Core.Path.{_≡_, sym, ap, _∙_}
+use mathlib.Core.Path.{_≡_}
 use mathlib.Core.List.{List}
 use Prim.Native.Nat.{ℕ, _≤_}
 use native.Mathlib.Omega.{arith}
 use lib.ListN.{length}
 use borrow.Author.Tests.{ltb-false}
-use Rattle.words.specs.Refuse.{Answer, answer, answered}
-use Rattle.words.proofs.Refusals.{Clear, left-keeps, answer-undone}
+use Rattle.words.specs.Refuse.{answered}
+use Rattle.words.proofs.Refusals.{Clear, undone}
 use Rattle.chacha.proofs.Streams.{length-stream, stream-twice}
 use Rattle.lioness.specs.Lioness.{steps}
 use Rattle.lioness.specs.Entry.{chacha, blake, refusals, ordered, enciphering, deciphering}
 use Rattle.lioness.proofs.Inverse.{length-steps, steps-undone}
 
-module _ (key iv block : List ℕ) where
+module _ (key iv block : List ℕ) (p q r s : ℕ) where
   long : Clear (refusals key iv block) → 32 ≤ length block
   long c = let h : 33 ≤ length block = ltb-false _ _ (c .1 .1 .0) in omega arith
 
-  module _ (p q r s : ℕ) where
-    done : List ℕ
-    done = steps chacha blake key iv p q r s block
+  same-length : Clear (refusals key iv block) → length (steps chacha blake key iv p q r s block) ≡ length block
+  same-length c = length-steps chacha blake (λ k n t. stream-twice k n t 0) (λ k n t. length-stream k n t 0) key iv p q r s block (long c)
 
-    judged : refusals key iv (ordered p q r s key iv block .left) ≡ refusals key iv block
-    unfolding ordered done
-    judged =
-        let e = left-keeps done block length (refusals key iv block) (λ c. length-steps chacha blake (λ k n t. stream-twice k n t 0) (λ k n t. length-stream k n t 0) key iv p q r s block (long c)) in
-        rw e
-
-    -- the same number, and the block as it was
-    pub undone : ordered s r q p key iv (ordered p q r s key iv block .left) ≡ answered (ordered p q r s key iv block .number) block
-    unfolding ordered done
-    undone =
-        let x = answer (refusals key iv block) done block .left in
-        ap (λ rows. answer rows (steps chacha blake key iv s r q p x) x) judged
-        ∙ answer-undone done block (steps chacha blake key iv s r q p) (refusals key iv block)
-        (λ c. steps-undone chacha blake (λ k n t. stream-twice k n t 0) (λ k n t. length-stream k n t 0) key iv p q r s block (long c))
+  -- the same number, and the block as it was
+  ordered-undone : ordered s r q p key iv (ordered p q r s key iv block .left) ≡ answered (ordered p q r s key iv block .number) block
+  unfolding ordered
+  ordered-undone =
+      undone (refusals key iv) (steps chacha blake key iv p q r s) (steps chacha blake key iv s r q p) block
+      (λ c. rw (same-length c))
+      (λ c. steps-undone chacha blake (λ k n t. stream-twice k n t 0) (λ k n t. length-stream k n t 0) key iv p q r s block (long c))
 
 pub deciphering-enciphering : (key iv block : List ℕ) → deciphering key iv (enciphering key iv block .left) ≡ answered (enciphering key iv block .number) block
-deciphering-enciphering key iv block = undone key iv block 1 2 3 4
+deciphering-enciphering key iv block = ordered-undone key iv block 1 2 3 4
 
 pub enciphering-deciphering : (key iv block : List ℕ) → enciphering key iv (deciphering key iv block .left) ≡ answered (deciphering key iv block .number) block
-enciphering-deciphering key iv block = undone key iv block 4 3 2 1
+enciphering-deciphering key iv block = ordered-undone key iv block 4 3 2 1

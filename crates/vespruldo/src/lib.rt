@@ -22,10 +22,10 @@ pub extern "C" fn vespruldo_gift_decipher(key: &[u8], block: &mut [u8]) -> u32
 }
 
 #[no_mangle]
-pub extern "C" fn vespruldo_chacha20(key: &[u8], nonce: &[u8], counter: u32, text: &mut [u8]) -> u32
-    ensures { λ r. ⌜ answered r (now (text .exit)) ≡ chacha.streaming (now (key .entry)) (now (nonce .entry)) counter (now (text .entry)) ⌝ }
+pub extern "C" fn vespruldo_chacha20(key: &[u8], nonce: &[u8], start: u32, text: &mut [u8]) -> u32
+    ensures { λ r. ⌜ answered r (now (text .exit)) ≡ chacha.streaming (now (key .entry)) (now (nonce .entry)) start (now (text .entry)) ⌝ }
 {
-    chacha::stream(key, nonce, counter, text)
+    chacha::stream(key, nonce, start, text)
 }
 
 #[no_mangle]

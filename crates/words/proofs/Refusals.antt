@@ -21,8 +21,8 @@ Clear [] = Unit {0}
 Clear (r ∷ rs) = (r .applies ≡ false) × Clear rs
 
 module _ {A : Type 0} (done kept : A) where
-  -- what is so of the outputs and of the memory as it was is so of what an answer leaves
-  pub left-keeps : {B : Type 0} (f : A → B) (rows : List Row) → (Clear rows → f done ≡ f kept) → f (answer rows done kept .left) ≡ f kept
+  -- what is the same of the outputs and of the memory as it was is the same of what an answer leaves
+  left-keeps : {B : Type 0} (f : A → B) (rows : List Row) → (Clear rows → f done ≡ f kept) → f (answer rows done kept .left) ≡ f kept
   left-keeps f [] h = h tt
   left-keeps f (r ∷ rs) h = by (r .applies) h (left-keeps f rs)
     where
@@ -31,11 +31,10 @@ module _ {A : Type 0} (done kept : A) where
       by true k rest = refl
       by false k rest = rest (λ c. k (refl, c))
 
-  -- judged by the same rows, what undoes the outputs undoes the answer: the number is the same and the memory is as it was
   abbrev Undone : (A → A) → List Row → Type 0
   Undone back rows = answer rows (back (answer rows done kept .left)) (answer rows done kept .left) ≡ answered (answer rows done kept .number) kept
 
-  pub answer-undone : (back : A → A) (rows : List Row) → (Clear rows → back done ≡ kept) → Undone back rows
+  answer-undone : (back : A → A) (rows : List Row) → (Clear rows → back done ≡ kept) → Undone back rows
   answer-undone back [] h = ap (answered 0) (h tt)
   answer-undone back (r ∷ rs) h = by (r .applies) h (answer-undone back rs)
     where
@@ -43,3 +42,11 @@ module _ {A : Type 0} (done kept : A) where
           → Undone back (record { applies = t; number = r .number } ∷ rs)
       by true k rest = refl
       by false k rest = rest (λ c. k (refl, c))
+
+-- an entry point that works in place on memory x, and one that undoes it: where the outputs are judged as x was and are
+-- undone, the second call answers the same number and leaves x, whether x was refused or not
+pub undone : {A : Type 0} (rows : A → List Row) (there back : A → A) (x : A) → (Clear (rows x) → rows (there x) ≡ rows x) → (Clear (rows x) → back (there x) ≡ x)
+    → let a = answer (rows x) (there x) x in answer (rows (a .left)) (back (a .left)) (a .left) ≡ answered (a .number) x
+undone rows there back x judged h =
+    let left = answer (rows x) (there x) x .left in
+    ap (λ r. answer r (back left) left) (left-keeps (there x) x rows (rows x) judged) ∙ answer-undone (there x) x back (rows x) h

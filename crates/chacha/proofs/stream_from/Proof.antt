@@ -5,7 +5,7 @@ use native.Mathlib.Omega.{arith}
 use denote.Ref.{now}
 use lib.ListN.{length, set, length-set}
 use Rattle.words.specs.Bytes.{plusAt}
-use Rattle.chacha.specs.ChaCha.{start, blockFrom, blocks, keyStream, stream}
+use Rattle.chacha.specs.ChaCha.{startState, blockFrom, blocks, keyStream, stream}
 use Rattle.chacha.proofs.Rounds.{start-set, length-start}
 use Rattle.chacha.proofs.Streams.{stream-first, stream-turn, stream-end}
 use borrow.Author.Needs.{needs}
@@ -15,7 +15,7 @@ use Rattle.chacha.proofs.stream_from.Tie as tie
 abbrev Inv-loop : tie.InvT-loop
 Inv-loop key nonce counter text₀ s₀ c₀ i₀ text s c i =
     (i % 64 ≡ 0) × (i < length text₀ + 64) × (c ≡ counter + i / 64) × (length text ≡ length text₀)
-    × (length s ≡ 16) × ((x : ℕ) → set s 12 x ≡ start key nonce x)
+    × (length s ≡ 16) × ((x : ℕ) → set s 12 x ≡ startState key nonce x)
     × (plusAt i text (keyStream key nonce c (blocks (length text₀) - i / 64)) ≡ stream key nonce counter text₀)
 
 abbrev μ-loop : tie.MeasureT-loop
