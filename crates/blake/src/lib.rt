@@ -219,11 +219,11 @@ fn round_of(m: &[u64; 16], s: &[u8; 160], r: usize, v: [u64; 16]) -> [u64; 16]
 }
 
 // Four words of a vector.
-pub struct Four {
-    pub a: u64,
-    pub b: u64,
-    pub c: u64,
-    pub d: u64,
+struct Four {
+    a: u64,
+    b: u64,
+    c: u64,
+    d: u64,
 }
 
 // The n-th mixing of round r.

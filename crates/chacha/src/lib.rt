@@ -151,11 +151,11 @@ fn double_round(s: [u32; 16]) -> [u32; 16]
 }
 
 // Four words of a state.
-pub struct Quad {
-    pub a: u32,
-    pub b: u32,
-    pub c: u32,
-    pub d: u32,
+struct Quad {
+    a: u32,
+    b: u32,
+    c: u32,
+    d: u32,
 }
 
 fn quarter_of(a: u32, b: u32, c: u32, d: u32) -> Quad
