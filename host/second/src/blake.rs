@@ -1,5 +1,6 @@
 //! BLAKE2b with or without a key (RFC 7693).
 
+use crate::square::COLUMNS_THEN_DIAGONALS;
 use crate::LONGEST_TEXT;
 
 /// The bytes in a block (RFC 7693, section 2.1: bb).
@@ -35,19 +36,6 @@ const SIGMA: [[usize; 16]; 10] = [
     [10, 2, 8, 4, 7, 6, 1, 5, 15, 11, 9, 14, 3, 12, 13, 0],
 ];
 
-/// The words of the work vector that each mixing of a round takes: four
-/// columns, then four diagonals (RFC 7693, section 3.2).
-const MIXINGS: [[usize; 4]; 8] = [
-    [0, 4, 8, 12],
-    [1, 5, 9, 13],
-    [2, 6, 10, 14],
-    [3, 7, 11, 15],
-    [0, 5, 10, 15],
-    [1, 6, 11, 12],
-    [2, 7, 8, 13],
-    [3, 4, 9, 14],
-];
-
 /// The mixing function G on four words of the work vector, with the message
 /// words `x` and `y` (RFC 7693, section 3.1). Addition is, "inside BLAKE2b
 /// modulo 2^64" (document 01, LIONESS).
@@ -79,7 +67,7 @@ fn compress(h: [u64; 8], block: &[u8], count: u64, last: bool) -> [u64; 8] {
     }
     for round in 0..ROUNDS {
         let s = SIGMA[round % 10];
-        for (n, places) in MIXINGS.into_iter().enumerate() {
+        for (n, places) in COLUMNS_THEN_DIAGONALS.into_iter().enumerate() {
             let mixed = mix(places.map(|p| v[p]), m[s[2 * n]], m[s[2 * n + 1]]);
             for (place, word) in places.into_iter().zip(mixed) {
                 v[place] = word;

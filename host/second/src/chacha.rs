@@ -1,29 +1,17 @@
 //! ChaCha20 as a key stream (RFC 7539, section 2).
 
+use crate::square::COLUMNS_THEN_DIAGONALS;
 use crate::LONGEST_TEXT;
 
 /// The sixteen 32-bit words that a block is made from.
 type State = [u32; 16];
 
 /// Twenty rounds, column rounds and diagonal rounds in turn (RFC 7539, section
-/// 2.3), are ten of these.
+/// 2.3), are ten pairs of them.
 const DOUBLE_ROUNDS: usize = 10;
 
-/// One column round and one diagonal round, each of four quarter rounds (RFC
-/// 7539, section 2.3). Each row names the words of one quarter round.
-const QUARTER_ROUNDS: [[usize; 4]; 8] = [
-    [0, 4, 8, 12],
-    [1, 5, 9, 13],
-    [2, 6, 10, 14],
-    [3, 7, 11, 15],
-    [0, 5, 10, 15],
-    [1, 6, 11, 12],
-    [2, 7, 8, 13],
-    [3, 4, 9, 14],
-];
-
-/// The quarter round on four numbers (RFC 7539, section 2.1). "Inside ChaCha20 addition is modulo
-/// 2^32" (document 01, LIONESS).
+/// The quarter round on four numbers (RFC 7539, section 2.1). "Inside ChaCha20
+/// addition is modulo 2^32" (document 01, LIONESS).
 fn quarter_round([a, b, c, d]: [u32; 4]) -> [u32; 4] {
     let a = a.wrapping_add(b);
     let d = (d ^ a).rotate_left(16);
@@ -66,7 +54,7 @@ fn block(key: &[u8; 32], nonce: &[u8; 12], counter: u32) -> Vec<u8> {
     let start = start_state(key, nonce, counter);
     let mut state = start;
     for _ in 0..DOUBLE_ROUNDS {
-        for places in QUARTER_ROUNDS {
+        for places in COLUMNS_THEN_DIAGONALS {
             quarter_round_on(&mut state, places);
         }
     }

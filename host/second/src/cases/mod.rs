@@ -57,12 +57,11 @@ fn both_ways(
     decipher: impl Fn(&mut [u8]) -> u32,
 ) -> String {
     let mut block = block.to_vec();
-    let steps: [&dyn Fn(&mut [u8]) -> u32; 3] = [&encipher, &decipher, &decipher];
-    let answers = steps.map(|step| {
+    let mut after = |step: &dyn Fn(&mut [u8]) -> u32| {
         let number = step(&mut block);
         format!("{number} {}", print_field(&block, order))
-    });
-    answers.join(" ")
+    };
+    [after(&encipher), after(&decipher), after(&decipher)].join(" ")
 }
 
 /// The bytes of a published value printed byte 0 first.
