@@ -1,7 +1,7 @@
 -- Card 12 of document 01 and RFC 7693's worked example, of the definitions.
 -- Assumes nothing.
 use mathlib.Core.Path.{_≡_, refl}
-use mathlib.Core.List.{List, [], _∷_}
+use mathlib.Core.List.{[], _∷_}
 use Rattle.words.specs.Bytes.{number, bytes, filled}
 use Rattle.words.specs.Digits.{rotr, tab}
 use Rattle.words.specs.Words.{words, unwords}

@@ -15,7 +15,7 @@ use Rattle.words.specs.Block.{halves, part, loaded}
 use Rattle.words.specs.Bytes.{Bytes, number}
 use Rattle.words.specs.Digits.{tab}
 use Rattle.words.specs.Pick.{pick}
-use Rattle.words.specs.Refuse.{Answer, answered}
+use Rattle.words.specs.Refuse.{answered}
 use Rattle.words.specs.Words.{words, unwords}
 use Rattle.words.proofs.Bytes.{length-filled, filled-full}
 use Rattle.words.proofs.Lists.{length-tab, listed, sets-whole}

@@ -1,7 +1,7 @@
 -- RFC 7539's worked examples, of the definitions.
 -- Assumes nothing.
 use mathlib.Core.Path.{_≡_, refl}
-use mathlib.Core.List.{List, [], _∷_}
+use mathlib.Core.List.{[], _∷_}
 use Rattle.words.specs.Bytes.{number, bytes}
 use Rattle.words.specs.Digits.{rotr, tab}
 use Rattle.words.specs.Words.{words, unwords}

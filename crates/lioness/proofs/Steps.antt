@@ -1,6 +1,6 @@
 -- What the code's steps make, from what their calls ensure.
 -- Assumes nothing.
-use mathlib.Core.Path.{_≡_, refl, sym, ap, _∙_}
+use mathlib.Core.Path.{_≡_, sym, ap, _∙_}
 use mathlib.Core.List.{List, _++_, append-nil}
 use Prim.Native.Nat.{ℕ, _+_, _-_, _*_, _/_, _^_, _≤_}
 use native.Mathlib.Nat.{zero-add}
@@ -20,7 +20,7 @@ use Rattle.blake.specs.Blake.{digest}
 use Rattle.blake.specs.Entry.{digesting}
 use Rattle.blake.proofs.Hashing.{digesting-done, length-digest}
 use Rattle.lioness.specs.Lioness.{piece, left, right, streamStep, digestStep, step, steps}
-use Rattle.lioness.specs.Entry.{chacha, blake, refusals, ordered}
+use Rattle.lioness.specs.Entry.{chacha, blake, ordered}
 
 -- ---- the parts of key and iv
 

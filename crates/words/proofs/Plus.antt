@@ -8,7 +8,7 @@ use native.Mathlib.Nat.{zero-add, suc-add, suc-inj, not-suc-le-zero, le-of-suc-l
 use native.Mathlib.Numerals.{add-one}
 use native.Mathlib.Omega.{arith}
 use lib.Bits.{bitXor}
-use lib.ListN.{length, getD, take, drop, set, replicate, length-take, length-drop, length-append, take-append-drop, drop-of-length-le}
+use lib.ListN.{length, getD, take, drop, set, replicate, length-take, length-drop, take-append-drop, drop-of-length-le}
 use lib.Seq.{drop-cons, getD-take, getD-drop, take-all}
 use Rattle.words.specs.Block.{part}
 use Rattle.words.specs.Bytes.{plus, plusAt}
@@ -58,13 +58,9 @@ pub plusAt-none : (at : ℕ) (s : List ℕ) → plusAt at s [] ≡ s
 unfolding plusAt
 plusAt-none at s = ap (λ (r : List ℕ). take at s ++ r) (plus-none (drop at s)) ∙ take-append-drop at s
 
-pub plusAt-past : (at : ℕ) (s t : List ℕ) → length s ≤ at → plusAt at s t ≡ s
+plusAt-past : (at : ℕ) (s t : List ℕ) → length s ≤ at → plusAt at s t ≡ s
 unfolding plus plusAt
 plusAt-past at s t h = rw (drop-of-length-le s {i = at} h, take-all at s h) (append-nil s)
-
-pub length-plusAt : (at : ℕ) (s t : List ℕ) → length (plusAt at s t) ≡ length s
-unfolding plusAt
-length-plusAt at s t = rw (length-append, length-take, length-plus, length-drop) (omega arith)
 
 -- two lists one after the other
 after : (s t u : List ℕ) → plusAt (length t) (plus s t) u ≡ plus s (t ++ u)

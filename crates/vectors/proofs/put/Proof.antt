@@ -1,5 +1,4 @@
 use Prim.Native.Nat.{_-_, _≤_}
-use native.Mathlib.Omega.{arith}
 use borrow.Author.Needs.{needs}
 use Rattle.vectors.proofs.put.Statement.{statement}
 use Rattle.vectors.proofs.put.Tie as tie

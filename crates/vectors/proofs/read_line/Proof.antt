@@ -1,4 +1,3 @@
-use native.Mathlib.Omega.{arith}
 use borrow.Author.Needs.{needs}
 use Rattle.vectors.proofs.read_line.Statement.{statement}
 use Rattle.vectors.proofs.read_line.Tie as tie
