@@ -1,6 +1,6 @@
 -- The key stream: a block's turn, adding it twice, and cutting it after whole blocks.
 -- Assumes nothing.
-use mathlib.Core.Path.{_≡_, refl, sym, ap, _∙_}
+use mathlib.Core.Path.{_≡_, refl, sym, ap, ap₂, _∙_}
 use mathlib.Core.List.{List, _++_, append-assoc}
 use Prim.Native.Nat.{ℕ, zero, suc, _+_, _*_, _^_, _≤_}
 use native.Mathlib.Nat.{zero-add, suc-add, add-suc, add-zero}
@@ -8,11 +8,11 @@ use native.Mathlib.Numerals.{add-one}
 use native.Mathlib.Omega.{arith}
 use lib.ListN.{length, length-append}
 use lib.Seq.{take-all}
-use borrow.Author.Tests.{eq-eqb, le-ltb}
+use borrow.Author.Tests.{eqb-true, not-false, ltb-false, eq-eqb, le-ltb}
 use Rattle.words.specs.Block.{part}
 use Rattle.words.specs.Bytes.{plus, plusAt}
 use Rattle.words.specs.Refuse.{answered}
-use Rattle.words.proofs.Refusals.{undone}
+use Rattle.words.proofs.Refusals.{Clear, done-clear, undone}
 use Rattle.words.proofs.Plus.{length-plus, plus-twice, plus-append, plusAt-first, plusAt-none, plusAt-append}
 use Rattle.chacha.specs.ChaCha.{block, blocks, startState, keyStream, stream}
 use Rattle.chacha.specs.Entry.{refusals, streaming}
@@ -95,3 +95,27 @@ streaming-done key nonce text counter ek en ht hb = simp (eq-eqb _ _ ek, eq-eqb 
 pub streamed : (key nonce text : List ℕ) (counter : ℕ) {out : List ℕ} → out ≡ stream key nonce counter text
     → length key ≡ 32 → length nonce ≡ 12 → length text ≤ 1048576 → counter + blocks (length text) ≤ 2 ^ 32 → answered 0 out ≡ streaming key nonce counter text
 streamed key nonce text counter e ek en ht hb = ap (answered 0) e ∙ sym (streaming-done key nonce text counter ek en ht hb)
+
+clear : (key nonce text : List ℕ) (counter : ℕ) → streaming key nonce counter text .number ≡ 0 → Clear (refusals key nonce counter text)
+unfolding streaming
+clear key nonce text counter =
+    done-clear (stream key nonce counter text) text (refusals key nonce counter text) ((λ e. omega arith), ((λ e. omega arith), ((λ e. omega arith), ((λ e. omega arith), tt))))
+
+-- a call that is done, cut after m whole blocks: both calls are done, and they leave the same bytes
+pub streaming-cut : (key nonce a b : List ℕ) (counter m : ℕ) → length a ≡ 64 * m → streaming key nonce counter (a ++ b) .number ≡ 0
+    → (streaming key nonce counter a .number ≡ 0) × (streaming key nonce (counter + m) b .number ≡ 0)
+    × (streaming key nonce counter (a ++ b) .left ≡ streaming key nonce counter a .left ++ streaming key nonce (counter + m) b .left)
+streaming-cut key nonce a b counter m e done =
+    let c = clear key nonce (a ++ b) counter done in
+    let ek : length key ≡ 32 = eqb-true _ _ (not-false _ (c .0)) in
+    let en : length nonce ≡ 12 = eqb-true _ _ (not-false _ (c .1 .0)) in
+    let ht : length (a ++ b) ≤ 1048576 = ltb-false _ _ (c .1 .1 .0) in
+    let hb : counter + blocks (length (a ++ b)) ≤ 2 ^ 32 = ltb-false _ _ (c .1 .1 .1 .0) in
+    let l = length-append a b in
+    let whole = streaming-done key nonce (a ++ b) counter ek en ht hb in
+    let first = streaming-done key nonce a counter ek en (omega (arith, ht, l)) (omega (arith, hb, l)) in
+    let second = streaming-done key nonce b (counter + m) ek en (omega (arith, ht, l)) (omega (arith, hb, l, e)) in (
+      ap (λ r. r .number) first,
+      ap (λ r. r .number) second,
+      ap (λ r. r .left) whole ∙ stream-cut key nonce a b counter m e ∙ sym (ap₂ _++_ (ap (λ r. r .left) first) (ap (λ r. r .left) second)),
+    )

@@ -20,7 +20,22 @@ abbrev pub Clear : List Row → Type 0
 Clear [] = Unit {0}
 Clear (r ∷ rs) = (r .applies ≡ false) × Clear rs
 
+-- no row has the number that means done
+abbrev pub Numbered : List Row → Type 0
+Numbered [] = Unit {0}
+Numbered (r ∷ rs) = (r .number ≡ 0 → ⊥) × Numbered rs
+
 module _ {A : Type 0} (done kept : A) where
+  -- an answer of 0 comes where no row applies
+  pub done-clear : (rows : List Row) → Numbered rows → answer rows done kept .number ≡ 0 → Clear rows
+  done-clear [] n e = tt
+  done-clear (r ∷ rs) n e = by (r .applies) e (done-clear rs (n .1))
+    where
+      by : (t : Bool) → pick t (record { number = r .number; left = kept }) (answer rs done kept) .number ≡ 0 → (answer rs done kept .number ≡ 0 → Clear rs)
+          → (t ≡ false) × Clear rs
+      by true q rest = absurd (n .0 q)
+      by false q rest = (refl, rest q)
+
   -- what is the same of the outputs and of the memory as it was is the same of what an answer leaves
   left-keeps : {B : Type 0} (f : A → B) (rows : List Row) → (Clear rows → f done ≡ f kept) → f (answer rows done kept .left) ≡ f kept
   left-keeps f [] h = h tt
