@@ -48,7 +48,7 @@ pub rest-part : (s : List ℕ) (at : ℕ) → length s - at < 128 → take (leng
 rest-part s at h =
     take-all (length s - at) (drop at s) (simp length-drop (omega arith)) ∙ sym (take-all 128 (drop at s) (simp length-drop (omega arith)))
 
-pub compress-is : (h b m v w r : List ℕ) (t : ℕ) (last : Bool) → m ≡ words 8 16 b → v ≡ vector h t last → w ≡ rounds 12 m v → r ≡ folded h w → r ≡ compress h b t last
+pub compress-is : (h b m v w r : List ℕ) (t : ℕ) (last : Bool) → m ≡ words 8 16 b → v ≡ vector h t last → w ≡ rounds m v → r ≡ folded h w → r ≡ compress h b t last
 unfolding compress
 compress-is h b m v w r t last em ev ew er = rw (er, ew, ev, em)
 

@@ -1,9 +1,8 @@
 -- The mixing and the rounds, of what the code's calls ensure.
 -- Assumes nothing.
-use mathlib.Core.Path.{_≡_, refl, sym, ap, ap₂, subst⁻¹, _∙_}
+use mathlib.Core.Path.{_≡_, sym, ap, ap₂, subst⁻¹, _∙_}
 use mathlib.Core.List.{List, [], _∷_}
 use Prim.Native.Nat.{ℕ, _+_, _*_, _%_, _<_}
-use native.Mathlib.Numerals.{add-one}
 use native.Mathlib.Omega.{arith}
 use lib.Bits.{bitXor}
 use lib.Dec.{T, ltb, ltb→lt}
@@ -12,7 +11,7 @@ use Rattle.words.specs.Digits.{sumMod, rotr, tab}
 use Rattle.words.proofs.Lists.{listed}
 use Rattle.words.proofs.Tests.{allBelow, below}
 use Rattle.blake.specs.declared.Four.{Four}
-use Rattle.blake.specs.Blake.{sigmaTable, sigma, mixed, wordAt, mixAt, round, rounds}
+use Rattle.blake.specs.Blake.{sigmaTable, sigma, mixed, wordAt, mixAt, round}
 
 -- ---- the schedule
 
@@ -68,11 +67,3 @@ module _ (m : List ℕ) (r : ℕ) where
       (round m r v)
   round-is v e p0 p1 p2 p3 q0 q1 q2 q3 e0 e1 e2 e3 f0 f1 f2 f3 =
       turned (λ j. getD v j 0) p0 p1 p2 p3 q0 q1 q2 q3 e0 e1 e2 e3 f0 f1 f2 f3 ∙ ap (round m r) (sym (listed v 16 e))
-
-pub rounds-none : (m v : List ℕ) → rounds 0 m v ≡ v
-unfolding rounds
-rounds-none m v = refl
-
-pub rounds-next : (n : ℕ) (m v t u : List ℕ) → t ≡ rounds n m v → u ≡ round m n t → u ≡ rounds (n + 1) m v
-unfolding rounds
-rounds-next n m v t u e f = rw (add-one, f, e)

@@ -9,6 +9,7 @@ use lib.ListN.{getD, set, take, drop, length}
 use Rattle.words.specs.Bytes.{filled}
 use Rattle.words.specs.Digits.{sumMod, rotr, tab}
 use Rattle.words.specs.Pick.{pick}
+use Rattle.words.specs.Turns.{turns}
 use Rattle.words.specs.Words.{words, unwords}
 use Rattle.blake.specs.declared.Four.{Four}
 
@@ -77,10 +78,9 @@ round m r v₀ =
     let v₇ = mixAt m r 6 2 7 8 13 v₆ in
     mixAt m r 7 3 4 9 14 v₇
 
--- the first n rounds
-unfoldable pub rounds : ℕ → List ℕ → List ℕ → List ℕ
-rounds zero m v = v
-rounds (suc n) m v = round m n (rounds n m v)
+-- twelve rounds
+abbrev pub rounds : List ℕ → List ℕ → List ℕ
+rounds m v = turns (round m) 12 v
 
 -- the vector at the start: the chain value and the initialization vector, with the byte count t in two words and, for the last
 -- block, all bits of one word inverted
@@ -96,7 +96,7 @@ folded h v = tab (λ i. bitXor (bitXor (getD h i 0) (getD v i 0)) (getD v (i + 8
 
 -- a block of 128 bytes, sixteen words
 unfoldable pub compress : List ℕ → List ℕ → ℕ → Bool → List ℕ
-compress h block t last = folded h (rounds 12 (words 8 16 block) (vector h t last))
+compress h block t last = folded h (rounds (words 8 16 block) (vector h t last))
 
 -- ---- 3.3, padding the data and computing the digest
 

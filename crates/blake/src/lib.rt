@@ -172,7 +172,7 @@ fn folded_of(h: [u64; 8], v: [u64; 16]) -> [u64; 8]
 }
 
 fn rounds_of(m: &[u64; 16], v: [u64; 16]) -> [u64; 16]
-    ensures { λ r. ⌜ r ≡ rounds 12 (now (m .entry)) v ⌝ }
+    ensures { λ r. ⌜ r ≡ rounds (now (m .entry)) v ⌝ }
 {
     let s = schedule::SIGMA;
     let mut u = v;

@@ -4,9 +4,10 @@ use mathlib.Core.Path.{_≡_, refl}
 use mathlib.Core.List.{[], _∷_}
 use Rattle.words.specs.Bytes.{number, bytes}
 use Rattle.words.specs.Digits.{rotr, tab}
+use Rattle.words.specs.Turns.{turns}
 use Rattle.words.specs.Words.{words, unwords}
 use Rattle.chacha.specs.declared.Quad.{Quad}
-use Rattle.chacha.specs.ChaCha.{quarter, quarterRound, doubleRound, rounds, startState, sums, blockFrom, block}
+use Rattle.chacha.specs.ChaCha.{quarter, quarterRound, doubleRound, startState, sums, blockFrom, block}
 
 -- 2.1.1
 pub quarter-example : _≡_ {A = Quad} (quarter 0x11111111 0x01020304 0x9b8d6f43 0x01234567) (record { a = 0xea2a92f4; b = 0xcb1cf8ce; c = 0x4581472e; d = 0x5881c4bb })
@@ -19,5 +20,5 @@ pub block-example : block (tab (λ i. i) 0 32) (0x00 ∷ 0x00 ∷ 0x00 ∷ 0x09 
     ∷ 0xc7 ∷ 0xd1 ∷ 0xf4 ∷ 0xc7 ∷ 0x33 ∷ 0xc0 ∷ 0x68 ∷ 0x03 ∷ 0x04 ∷ 0x22 ∷ 0xaa ∷ 0x9a ∷ 0xc3 ∷ 0xd4 ∷ 0x6c ∷ 0x4e
     ∷ 0xd2 ∷ 0x82 ∷ 0x64 ∷ 0x46 ∷ 0x07 ∷ 0x9f ∷ 0xaa ∷ 0x09 ∷ 0x14 ∷ 0xc2 ∷ 0xd7 ∷ 0x05 ∷ 0xd9 ∷ 0x8b ∷ 0x02 ∷ 0xa2
     ∷ 0xb5 ∷ 0x12 ∷ 0x9c ∷ 0xd1 ∷ 0xde ∷ 0x16 ∷ 0x4e ∷ 0xb9 ∷ 0xcb ∷ 0xd0 ∷ 0x83 ∷ 0xe8 ∷ 0xa2 ∷ 0x50 ∷ 0x3c ∷ 0x4e ∷ []
-unfolding number bytes rotr tab words unwords quarter quarterRound doubleRound rounds startState sums blockFrom
+unfolding number bytes rotr tab words unwords quarter quarterRound doubleRound turns startState sums blockFrom
 block-example = refl

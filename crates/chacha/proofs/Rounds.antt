@@ -2,8 +2,7 @@
 -- Assumes nothing.
 use mathlib.Core.Path.{_≡_, refl, sym, ap, _∙_}
 use mathlib.Core.List.{List, [], _∷_}
-use Prim.Native.Nat.{ℕ, _+_, _*_, _≤_, _<_}
-use native.Mathlib.Numerals.{add-one}
+use Prim.Native.Nat.{ℕ, _*_, _≤_, _<_}
 use native.Mathlib.Omega.{arith}
 use lib.Bits.{bitXor}
 use lib.ListN.{length, getD, drop, set, replicate}
@@ -42,14 +41,6 @@ pub double-is : (s : List ℕ) → length s ≡ 16 → (p0 p1 p2 p3 q0 q1 q2 q3 
 double-is s e p0 p1 p2 p3 q0 q1 q2 q3 e0 e1 e2 e3 f0 f1 f2 f3 =
     double (λ j. getD s j 0) p0 p1 p2 p3 q0 q1 q2 q3 e0 e1 e2 e3 f0 f1 f2 f3 ∙ ap doubleRound (sym (listed s 16 e))
 
-pub rounds-none : (s : List ℕ) → rounds 0 s ≡ s
-unfolding rounds
-rounds-none s = refl
-
-pub rounds-next : (n : ℕ) (s t u : List ℕ) → t ≡ rounds n s → u ≡ doubleRound t → u ≡ rounds (n + 1) s
-unfolding rounds
-rounds-next n s t u e f = rw (add-one, f, e)
-
 -- the start differs in the counter alone
 pub start-set : (key nonce : List ℕ) (c₀ c : ℕ) → set (startState key nonce c₀) 12 c ≡ startState key nonce c
 unfolding startState words tab
@@ -79,10 +70,10 @@ block-first s t =
     let k : 64 ≤ length (unwords 4 (sums s t)) = omega arith in
     words-first 4 (replicate 64 0) (sums s t) ∙ sets-whole (replicate 64 0) (unwords 4 (sums s t)) k ∙ take-all 64 (unwords 4 (sums s t)) (omega arith)
 
-pub block-is : (s t out : List ℕ) → t ≡ rounds 10 s → out ≡ unwords 4 (sums s t) → out ≡ blockFrom s
+pub block-is : (s t out : List ℕ) → t ≡ rounds s → out ≡ unwords 4 (sums s t) → out ≡ blockFrom s
 unfolding blockFrom
 block-is s t out e f = rw (f, e)
 
 pub length-block : (s : List ℕ) → length (blockFrom s) ≡ 64
 unfolding blockFrom
-length-block s = length-bytes s (rounds 10 s)
+length-block s = length-bytes s (rounds s)

@@ -7,6 +7,7 @@ use lib.Bits.{bitXor}
 use lib.ListN.{getD, set, length}
 use Rattle.words.specs.Bytes.{plus}
 use Rattle.words.specs.Digits.{sumMod, rotl, tab}
+use Rattle.words.specs.Turns.{turns}
 use Rattle.words.specs.Words.{words, unwords}
 use Rattle.chacha.specs.declared.Quad.{Quad}
 
@@ -45,10 +46,9 @@ doubleRound s₀ =
     let s₇ = quarterRound 2 7 8 13 s₆ in
     quarterRound 3 4 9 14 s₇
 
--- n of them
-unfoldable pub rounds : ℕ → List ℕ → List ℕ
-rounds zero s = s
-rounds (suc n) s = doubleRound (rounds n s)
+-- twenty rounds
+abbrev pub rounds : List ℕ → List ℕ
+rounds s = turns (λ i. doubleRound) 10 s
 
 -- four constants, the key in eight words, the block counter, the nonce in three
 unfoldable pub startState : List ℕ → List ℕ → ℕ → List ℕ
@@ -59,9 +59,9 @@ startState key nonce counter =
 unfoldable pub sums : List ℕ → List ℕ → List ℕ
 sums s t = tab (λ i. sumMod 32 (getD s i 0) (getD t i 0)) 0 16
 
--- twenty rounds, the start added to their result, and the words written out
+-- the start added to what the rounds make of it, and the words written out
 unfoldable pub blockFrom : List ℕ → List ℕ
-blockFrom s = unwords 4 (sums s (rounds 10 s))
+blockFrom s = unwords 4 (sums s (rounds s))
 
 abbrev pub block : List ℕ → List ℕ → ℕ → List ℕ
 block key nonce counter = blockFrom (startState key nonce counter)

@@ -106,7 +106,7 @@ fn block_of(s: [u32; 16]) -> [u8; 64]
 
 // Twenty rounds, two at a time.
 fn rounds_of(s: [u32; 16]) -> [u32; 16]
-    ensures { λ r. ⌜ r ≡ rounds 10 s ⌝ }
+    ensures { λ r. ⌜ r ≡ rounds s ⌝ }
 {
     let mut t = s;
     let mut i: usize = 0;

@@ -4,11 +4,11 @@ use mathlib.Core.Path.{_≡_, refl, ap, ap₂, _∙_}
 use mathlib.Core.Bool.{Bool, true, false, not}
 use Prim.Native.Nat.{ℕ, zero, suc, _+_, _-_, _*_, _^_, _≤_, _<_}
 use native.Mathlib.Nat.{zero-lt-suc, mod-lt, le-step, le-refl, suc-sub-suc}
-use native.Mathlib.Numerals.{add-one}
 use native.Mathlib.Omega.{arith}
 use lib.Bits.{bitXor, xor-lt}
 use lib.Dec.{lit<, lit≤}
 use Rattle.words.specs.Pick.{pick}
+use Rattle.words.specs.Turns.{turns}
 use Rattle.words.proofs.ExclusiveOr.{xor-undo}
 use Rattle.words.proofs.Sums.{scatter-lt}
 use Rattle.words.proofs.Tests.{pick-lt}
@@ -53,34 +53,26 @@ round-undone true a x ha h =
 
 -- ---- all rounds
 
-pub rounds-none : (back : Bool) (a : ℕ → ℕ) (x : ℕ) → rounds back a 0 x ≡ x
-unfolding rounds
-rounds-none back a x = refl
-
-pub rounds-next : (back : Bool) (a : ℕ → ℕ) (n x : ℕ) → rounds back a (n + 1) x ≡ round back (a n) (rounds back a n x)
-unfolding rounds
-rounds-next back a n x = ap (λ (m : ℕ). rounds back a m x) (add-one n)
-
 rounds-same : (back : Bool) (a b : ℕ → ℕ) (n x : ℕ) → ((r : ℕ) → r < n → a r ≡ b r) → rounds back a n x ≡ rounds back b n x
-unfolding rounds
+unfolding turns
 rounds-same back a b zero x h = refl
 rounds-same back a b (suc n) x h = ap₂ (round back) (h n (le-refl (suc n))) (rounds-same back a b n x (λ r l. h r (le-step l)))
 
 -- the first round by itself
 rounds-first : (back : Bool) (a : ℕ → ℕ) (n x : ℕ) → rounds back a (suc n) x ≡ rounds back (λ r. a (suc r)) n (round back (a 0) x)
-unfolding rounds
+unfolding turns
 rounds-first back a zero x = refl
 rounds-first back a (suc n) x = ap (round back (a (suc n))) (rounds-first back a n x)
 
 rounds-lt : (back : Bool) (a : ℕ → ℕ) (n x : ℕ) → ((r : ℕ) → a r < 2 ^ 128) → x < 2 ^ 128 → rounds back a n x < 2 ^ 128
-unfolding rounds
+unfolding turns
 rounds-lt back a zero x small h = h
 rounds-lt back a (suc n) x small h = round-lt back (a n) (rounds back a n x) (small n)
 
 -- n rounds, and the same from the last on the other way
 rounds-undone : (back : Bool) (a : ℕ → ℕ) (n x : ℕ) → ((r : ℕ) → a r < 2 ^ 128) → x < 2 ^ 128
     → rounds (not back) (λ r. a (n - suc r)) n (rounds back a n x) ≡ x
-unfolding rounds
+unfolding turns
 rounds-undone back a zero x small h = refl
 rounds-undone back a (suc n) x small h =
     let y = rounds back a n x in

@@ -10,6 +10,7 @@ use lib.Dec.{eqb}
 use lib.ListN.{getD}
 use Rattle.words.specs.Digits.{digit, rotr, xsum}
 use Rattle.words.specs.Pick.{pick}
+use Rattle.words.specs.Turns.{turns}
 
 -- bit i and nibble j of x, counted from the lowest
 abbrev pub bit : ℕ → ℕ → ℕ
@@ -100,9 +101,8 @@ round false a x = bitXor (permBits false (subCells false x)) a
 round true a x = subCells true (permBits true (bitXor x a))
 
 -- n rounds, which add a 0, a 1, ..
-unfoldable pub rounds : Bool → (ℕ → ℕ) → ℕ → ℕ → ℕ
-rounds back a zero x = x
-rounds back a (suc n) x = round back (a n) (rounds back a n x)
+abbrev pub rounds : Bool → (ℕ → ℕ) → ℕ → ℕ → ℕ
+rounds back a n x = turns (λ r. round back (a r)) n x
 
 -- "Forty rounds", and back from the last
 unfoldable pub forty : Bool → (ℕ → ℕ) → ℕ → ℕ

@@ -3,6 +3,7 @@ pub mod ExclusiveOr
 pub mod Sums
 pub mod Rotation
 pub mod Tests
+pub mod Turns
 pub mod Lists
 pub mod Bytes
 pub mod Plus

@@ -1,5 +1,6 @@
 -- The definitions that all contracts share.
 pub mod Pick
+pub mod Turns
 pub mod Digits
 pub mod Bytes
 pub mod Block

@@ -6,9 +6,9 @@ use Rattle.words.specs.Block.{value, halves}
 use Rattle.words.specs.Digits.{tab}
 use Rattle.words.specs.Pick.{pick}
 use Rattle.words.proofs.Blocks.{value-is, halves-value}
+use Rattle.words.proofs.Turns.{turns-none, turns-next}
 use Rattle.gift.specs.Gift.{place, round, rounds, forty}
 use Rattle.gift.specs.Entry.{addition}
-use Rattle.gift.proofs.Inverse.{rounds-none, rounds-next}
 use Rattle.gift.proofs.forty_rounds.Statement.{statement}
 use Rattle.gift.proofs.forty_rounds.Tie as tie
 
@@ -20,7 +20,7 @@ abbrev μ-loop : tie.MeasureT-loop
 μ-loop back places rs y₀ r₀ y r = 40 - r
 
 loop-holds : tie.Need-loop-holds Inv-loop μ-loop
-loop-holds c = (omega arith, sym (ap halves (rounds-none _ _ _) ∙ halves-value (c .before .args .x) (omega arith)))
+loop-holds c = (omega arith, sym (ap halves (turns-none _ _) ∙ halves-value (c .before .args .x) (omega arith)))
 
 turn-requires : tie.Need-turn-requires Inv-loop μ-loop
 turn-requires c κs = omega arith
@@ -52,7 +52,7 @@ loop-again c =
       c .round-of .ensures
           ∙ ap halves
           (ap₂ (round (a .back)) (ap (λ (i : ℕ). value (getD (a .a .rounds) i (halves 0))) (d .turn .ensures .0)) (value-is (l .inv .1))
-          ∙ sym (rounds-next (a .back) f (l .r) (value (a .x)))),
+          ∙ turns-next (λ i. round (a .back) (f i)) (l .r) (value (a .x)) refl refl),
     )
 
 returns : tie.Need-returns Inv-loop μ-loop
