@@ -33,6 +33,6 @@ module _ (S : List ℕ → List ℕ → List ℕ → List ℕ) (H : List ℕ →
   unfoldable pub step : ℕ → List ℕ → List ℕ
   step j block = pick (eqb (j % 2) 1) (streamStep j block) (digestStep j block)
 
-  -- four steps, in the order of their numbers here; "Deciphering runs 4, 3, 2, 1."
+  -- four steps, a the first and d the last; "Deciphering runs 4, 3, 2, 1."
   unfoldable pub steps : ℕ → ℕ → ℕ → ℕ → List ℕ → List ℕ
   steps a b c d block = step d (step c (step b (step a block)))
