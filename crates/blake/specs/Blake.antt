@@ -9,6 +9,7 @@ use lib.ListN.{getD, set, take, drop, length}
 use Rattle.words.specs.Bytes.{filled}
 use Rattle.words.specs.Digits.{sumMod, rotr, tab}
 use Rattle.words.specs.Pick.{pick}
+use Rattle.words.specs.Square.{square}
 use Rattle.words.specs.Turns.{turns}
 use Rattle.words.specs.Words.{words, unwords}
 use Rattle.blake.specs.declared.Four.{Four}
@@ -58,25 +59,15 @@ mixed a b c d x y =
 unfoldable pub wordAt : List ℕ → ℕ → ℕ → ℕ
 wordAt m r i = getD m (sigma r i) 0
 
--- the n-th mixing of round r, on four places of a vector: it takes the words 2n and 2n + 1
-unfoldable pub mixAt : List ℕ → ℕ → ℕ → ℕ → ℕ → ℕ → ℕ → List ℕ → List ℕ
-mixAt m r n i j k l v =
-    let q = mixed (getD v i 0) (getD v j 0) (getD v k 0) (getD v l 0) (wordAt m r (2 * n)) (wordAt m r (2 * n + 1)) in
-    set (set (set (set v i (q .a)) j (q .b)) k (q .c)) l (q .d)
+-- the n-th mixing of round r takes the words 2n and 2n + 1
+unfoldable pub mixing : List ℕ → ℕ → ℕ → ℕ → ℕ → ℕ → ℕ → Four
+mixing m r n a b c d = mixed a b c d (wordAt m r (2 * n)) (wordAt m r (2 * n + 1))
 
 -- ---- 3.2, the compression function F
 
--- round r on the message m: the columns, then the diagonals
+-- round r on the message m: the four columns, then the four diagonals
 unfoldable pub round : List ℕ → ℕ → List ℕ → List ℕ
-round m r v₀ =
-    let v₁ = mixAt m r 0 0 4 8 12 v₀ in
-    let v₂ = mixAt m r 1 1 5 9 13 v₁ in
-    let v₃ = mixAt m r 2 2 6 10 14 v₂ in
-    let v₄ = mixAt m r 3 3 7 11 15 v₃ in
-    let v₅ = mixAt m r 4 0 5 10 15 v₄ in
-    let v₆ = mixAt m r 5 1 6 11 12 v₅ in
-    let v₇ = mixAt m r 6 2 7 8 13 v₆ in
-    mixAt m r 7 3 4 9 14 v₇
+round m r v = square (λ q. q .a) (λ q. q .b) (λ q. q .c) (λ q. q .d) (mixing m r) v
 
 -- twelve rounds
 abbrev pub rounds : List ℕ → List ℕ → List ℕ

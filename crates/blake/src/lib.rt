@@ -12,7 +12,7 @@ ghost use Rattle.words.specs.Digits.{rotr};
 ghost use Rattle.words.specs.Pick.{pick};
 ghost use Rattle.words.specs.Refuse.{answered};
 ghost use Rattle.words.specs.Words.{words, unwords};
-ghost use Rattle.blake.specs.Blake.{sigmaTable, sigma, mixed, wordAt, round, rounds, vector, folded, compress, padded, startChain, absorbed, hashed};
+ghost use Rattle.blake.specs.Blake.{sigmaTable, sigma, mixed, wordAt, mixing, round, rounds, vector, folded, compress, padded, startChain, absorbed, hashed};
 ghost use Rattle.blake.specs.Entry.{digesting};
 
 mod schedule;
@@ -229,7 +229,7 @@ struct Four {
 // The n-th mixing of round r.
 fn mix_at(m: &[u64; 16], s: &[u8; 160], r: usize, n: usize, a: u64, b: u64, c: u64, d: u64) -> Four
     requires { ⌜ (now s ≡ sigmaTable) × (r < 12) × (n < 8) ⌝ }
-    ensures { λ q. ⌜ q ≡ mixed a b c d (wordAt (now (m .entry)) r (2 * n)) (wordAt (now (m .entry)) r (2 * n + 1)) ⌝ }
+    ensures { λ q. ⌜ q ≡ mixing (now (m .entry)) r n a b c d ⌝ }
 {
     mix(
         a,

@@ -12,7 +12,7 @@ use Rattle.words.specs.Words.{words, unwords}
 use Rattle.words.proofs.Lists.{tab-at, length-tab, listed, sets-whole}
 use Rattle.words.proofs.WordLists.{length-unwords, words-first}
 use Rattle.chacha.specs.declared.Quad.{Quad}
-use Rattle.chacha.specs.ChaCha.{quarter, quarterRound, doubleRound, rounds, startState, sums, blockFrom}
+use Rattle.chacha.specs.ChaCha.{quarter, rounds, startState, sums, blockFrom}
 
 pub quarter-is : (a b c d a₁ d₁ c₁ b₁ a₂ d₂ c₂ b₂ : ℕ)
     → a₁ ≡ sumMod 32 a b → d₁ ≡ rotl 32 16 (bitXor d a₁) → c₁ ≡ sumMod 32 c d₁ → b₁ ≡ rotl 32 12 (bitXor b c₁)
@@ -20,26 +20,6 @@ pub quarter-is : (a b c d a₁ d₁ c₁ b₁ a₂ d₂ c₂ b₂ : ℕ)
     → _≡_ {A = Quad} (record { a = a₂; b = b₂; c = c₂; d = d₂ }) (quarter a b c d)
 unfolding quarter
 quarter-is a b c d a₁ d₁ c₁ b₁ a₂ d₂ c₂ b₂ e1 e2 e3 e4 e5 e6 e7 e8 = rw (e8, e7, e6, e5, e4, e3, e2, e1)
-
--- on sixteen words g 0, g 1, ..
-double : (g : ℕ → ℕ) (p0 p1 p2 p3 q0 q1 q2 q3 : Quad)
-    → p0 ≡ quarter (g 0) (g 4) (g 8) (g 12) → p1 ≡ quarter (g 1) (g 5) (g 9) (g 13) → p2 ≡ quarter (g 2) (g 6) (g 10) (g 14) → p3 ≡ quarter (g 3) (g 7) (g 11) (g 15)
-    → q0 ≡ quarter (p0 .a) (p1 .b) (p2 .c) (p3 .d) → q1 ≡ quarter (p1 .a) (p2 .b) (p3 .c) (p0 .d)
-    → q2 ≡ quarter (p2 .a) (p3 .b) (p0 .c) (p1 .d) → q3 ≡ quarter (p3 .a) (p0 .b) (p1 .c) (p2 .d)
-    → _≡_ {A = List ℕ} (q0 .a ∷ q1 .a ∷ q2 .a ∷ q3 .a ∷ q3 .b ∷ q0 .b ∷ q1 .b ∷ q2 .b ∷ q2 .c ∷ q3 .c ∷ q0 .c ∷ q1 .c ∷ q1 .d ∷ q2 .d ∷ q3 .d ∷ q0 .d ∷ [])
-    (doubleRound (tab g 0 16))
-unfolding tab doubleRound quarterRound
-double g p0 p1 p2 p3 q0 q1 q2 q3 e0 e1 e2 e3 f0 f1 f2 f3 = rw (f0, f1, f2, f3, e0, e1, e2, e3)
-
-pub double-is : (s : List ℕ) → length s ≡ 16 → (p0 p1 p2 p3 q0 q1 q2 q3 : Quad)
-    → p0 ≡ quarter (getD s 0 0) (getD s 4 0) (getD s 8 0) (getD s 12 0) → p1 ≡ quarter (getD s 1 0) (getD s 5 0) (getD s 9 0) (getD s 13 0)
-    → p2 ≡ quarter (getD s 2 0) (getD s 6 0) (getD s 10 0) (getD s 14 0) → p3 ≡ quarter (getD s 3 0) (getD s 7 0) (getD s 11 0) (getD s 15 0)
-    → q0 ≡ quarter (p0 .a) (p1 .b) (p2 .c) (p3 .d) → q1 ≡ quarter (p1 .a) (p2 .b) (p3 .c) (p0 .d)
-    → q2 ≡ quarter (p2 .a) (p3 .b) (p0 .c) (p1 .d) → q3 ≡ quarter (p3 .a) (p0 .b) (p1 .c) (p2 .d)
-    → _≡_ {A = List ℕ} (q0 .a ∷ q1 .a ∷ q2 .a ∷ q3 .a ∷ q3 .b ∷ q0 .b ∷ q1 .b ∷ q2 .b ∷ q2 .c ∷ q3 .c ∷ q0 .c ∷ q1 .c ∷ q1 .d ∷ q2 .d ∷ q3 .d ∷ q0 .d ∷ [])
-    (doubleRound s)
-double-is s e p0 p1 p2 p3 q0 q1 q2 q3 e0 e1 e2 e3 f0 f1 f2 f3 =
-    double (λ j. getD s j 0) p0 p1 p2 p3 q0 q1 q2 q3 e0 e1 e2 e3 f0 f1 f2 f3 ∙ ap doubleRound (sym (listed s 16 e))
 
 -- the start differs in the counter alone
 pub start-set : (key nonce : List ℕ) (c₀ c : ℕ) → set (startState key nonce c₀) 12 c ≡ startState key nonce c

@@ -10,5 +10,6 @@ pub mod Plus
 pub mod Words
 pub mod Blocks
 pub mod WordLists
+pub mod Squares
 pub mod Refusals
 pub mod Single

@@ -1,6 +1,7 @@
 -- The definitions that all contracts share.
 pub mod Pick
 pub mod Turns
+pub mod Square
 pub mod Digits
 pub mod Bytes
 pub mod Block

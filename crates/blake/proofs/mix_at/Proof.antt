@@ -1,4 +1,5 @@
-use Rattle.blake.proofs.Mixing.{mixes}
+use denote.Ref.{now}
+use Rattle.blake.proofs.Mixing.{mixing-is}
 use borrow.Author.Needs.{needs}
 use Rattle.blake.proofs.mix_at.Statement.{statement}
 use Rattle.blake.proofs.mix_at.Tie as tie
@@ -24,7 +25,7 @@ mix-requires c κs = search needs
 returns : tie.Need-returns
 returns c =
     let a = c .before .before .before .args in
-    mixes (a .a) (a .b) (a .c) (a .d) (c .mix .ensures) (c .before .before .word-of .ensures) (c .before .word-of2 .ensures)
+    mixing-is (now (a .m)) (a .r) (a .n) (a .a) (a .b) (a .c) (a .d) (c .mix .ensures) (c .before .before .word-of .ensures) (c .before .word-of2 .ensures)
 
 pub mix-at-spec : {M : Type 1} → statement M
 mix-at-spec =

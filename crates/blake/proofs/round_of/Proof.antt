@@ -1,7 +1,8 @@
 use mathlib.Core.Path.{_≡_}
 use denote.Ref.{now}
 use lib.ListN.{length}
-use Rattle.blake.proofs.Mixing.{round-is}
+use Rattle.words.proofs.Squares.{square-is}
+use Rattle.blake.specs.Blake.{mixing, round}
 use borrow.Author.Needs.{needs}
 use Rattle.blake.proofs.round_of.Statement.{statement}
 use Rattle.blake.proofs.round_of.Tie as tie
@@ -82,9 +83,10 @@ long : (c : tie.Start) → length (c .args .t4) ≡ 16
 long c = search needs
 
 returns : tie.Need-returns
+unfolding round
 returns c =
     let d = c .before .before .before .before .before .before .before .before in
-    round-is (now (d .args .m)) (d .args .r) (d .args .t4) (long d) _ _ _ _ _ _ _ _
+    square-is (λ q. q .a) (λ q. q .b) (λ q. q .c) (λ q. q .d) (mixing (now (d .args .m)) (d .args .r)) (d .args .t4) (long d) _ _ _ _ _ _ _ _
     (c .before .before .before .before .before .before .before .mix-at .ensures)
     (c .before .before .before .before .before .before .mix-at2 .ensures)
     (c .before .before .before .before .before .mix-at3 .ensures)
