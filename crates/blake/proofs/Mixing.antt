@@ -1,14 +1,13 @@
 -- The mixing and the rounds, of what the code's calls ensure.
 -- Assumes nothing.
-use mathlib.Core.Path.{_≡_, sym, ap, ap₂, subst⁻¹, _∙_}
-use mathlib.Core.List.{List, [], _∷_}
+use mathlib.Core.Path.{_≡_, ap, ap₂, subst⁻¹, _∙_}
+use mathlib.Core.List.{List}
 use Prim.Native.Nat.{ℕ, _+_, _*_, _%_, _<_}
 use native.Mathlib.Omega.{arith}
 use lib.Bits.{bitXor}
 use lib.Dec.{T, ltb, ltb→lt}
-use lib.ListN.{length, getD}
-use Rattle.words.specs.Digits.{sumMod, rotr, tab}
-use Rattle.words.proofs.Lists.{listed}
+use lib.ListN.{getD}
+use Rattle.words.specs.Digits.{sumMod, rotr}
 use Rattle.words.proofs.Tests.{allBelow, below}
 use Rattle.blake.specs.declared.Four.{Four}
 use Rattle.blake.specs.Blake.{sigmaTable, sigma, mixed, wordAt, mixing}

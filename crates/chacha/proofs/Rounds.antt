@@ -1,7 +1,7 @@
 -- The rounds and the block, of what the code's calls ensure.
 -- Assumes nothing.
-use mathlib.Core.Path.{_≡_, refl, sym, ap, _∙_}
-use mathlib.Core.List.{List, [], _∷_}
+use mathlib.Core.Path.{_≡_, refl, ap, _∙_}
+use mathlib.Core.List.{List}
 use Prim.Native.Nat.{ℕ, _*_, _≤_, _<_}
 use native.Mathlib.Omega.{arith}
 use lib.Bits.{bitXor}
@@ -9,7 +9,7 @@ use lib.ListN.{length, getD, drop, set, replicate}
 use lib.Seq.{sets, take-all}
 use Rattle.words.specs.Digits.{sumMod, rotl, tab}
 use Rattle.words.specs.Words.{words, unwords}
-use Rattle.words.proofs.Lists.{tab-at, length-tab, listed, sets-whole}
+use Rattle.words.proofs.Lists.{tab-at, length-tab, sets-whole}
 use Rattle.words.proofs.WordLists.{length-unwords, words-first}
 use Rattle.chacha.specs.declared.Quad.{Quad}
 use Rattle.chacha.specs.ChaCha.{quarter, rounds, startState, sums, blockFrom}
