@@ -25,15 +25,17 @@ use Rattle.blake.specs.Entry.{digesting}
 
 -- ---- a block
 
-vectored : (g : ℕ → ℕ) (t i : ℕ) (last : Bool) → t < 2 ^ 64 → i ≡ pick last (bitXor 0x1f83d9abfb41bd6b 0xFFFFFFFFFFFFFFFF) 0x1f83d9abfb41bd6b
-    → _≡_ {A = List ℕ} (g 0 ∷ g 1 ∷ g 2 ∷ g 3 ∷ g 4 ∷ g 5 ∷ g 6 ∷ g 7 ∷ 0x6a09e667f3bcc908 ∷ 0xbb67ae8584caa73b ∷ 0x3c6ef372fe94f82b ∷ 0xa54ff53a5f1d36f1
-    ∷ bitXor 0x510e527fade682d1 t ∷ 0x9b05688c2b3e6c1f ∷ i ∷ 0x5be0cd19137e2179 ∷ []) (vector (tab g 0 8) t last)
+-- what stands behind the chain value, for a count of one word
+abbrev behind : ℕ → ℕ → List ℕ
+behind t i = getD iv 0 0 ∷ getD iv 1 0 ∷ getD iv 2 0 ∷ getD iv 3 0 ∷ bitXor (getD iv 4 0) t ∷ getD iv 5 0 ∷ i ∷ getD iv 7 0 ∷ []
+
+vectored : (g : ℕ → ℕ) (t i : ℕ) (last : Bool) → t < 2 ^ 64 → i ≡ pick last (bitXor (getD iv 6 0) 0xFFFFFFFFFFFFFFFF) (getD iv 6 0)
+    → g 0 ∷ g 1 ∷ g 2 ∷ g 3 ∷ g 4 ∷ g 5 ∷ g 6 ∷ g 7 ∷ behind t i ≡ vector (tab g 0 8) t last
 unfolding tab vector iv
 vectored g t i last h e = rw (e, mod-eq-of-lt h, div-eq-of-lt h)
 
-pub vector-is : (h : List ℕ) → length h ≡ 8 → (t i : ℕ) (last : Bool) → t < 2 ^ 64 → i ≡ pick last (bitXor 0x1f83d9abfb41bd6b 0xFFFFFFFFFFFFFFFF) 0x1f83d9abfb41bd6b
-    → _≡_ {A = List ℕ} (getD h 0 0 ∷ getD h 1 0 ∷ getD h 2 0 ∷ getD h 3 0 ∷ getD h 4 0 ∷ getD h 5 0 ∷ getD h 6 0 ∷ getD h 7 0 ∷ 0x6a09e667f3bcc908 ∷ 0xbb67ae8584caa73b
-    ∷ 0x3c6ef372fe94f82b ∷ 0xa54ff53a5f1d36f1 ∷ bitXor 0x510e527fade682d1 t ∷ 0x9b05688c2b3e6c1f ∷ i ∷ 0x5be0cd19137e2179 ∷ []) (vector h t last)
+pub vector-is : (h : List ℕ) → length h ≡ 8 → (t i : ℕ) (last : Bool) → t < 2 ^ 64 → i ≡ pick last (bitXor (getD iv 6 0) 0xFFFFFFFFFFFFFFFF) (getD iv 6 0)
+    → getD h 0 0 ∷ getD h 1 0 ∷ getD h 2 0 ∷ getD h 3 0 ∷ getD h 4 0 ∷ getD h 5 0 ∷ getD h 6 0 ∷ getD h 7 0 ∷ behind t i ≡ vector h t last
 vector-is h e t i last k f = vectored (λ j. getD h j 0) t i last k f ∙ ap (λ (l : List ℕ). vector l t last) (sym (listed h 8 e))
 
 -- what a load gives is the word of the padded block

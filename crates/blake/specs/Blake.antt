@@ -12,7 +12,7 @@ use Rattle.words.specs.Pick.{pick}
 use Rattle.words.specs.Square.{square}
 use Rattle.words.specs.Turns.{turns}
 use Rattle.words.specs.Words.{words, unwords}
-use Rattle.blake.specs.declared.Four.{Four}
+use Rattle.blake.specs.declared.Quad.{Quad}
 
 -- ---- 2.6, the initialization vector
 
@@ -43,7 +43,7 @@ sigma r i = getD sigmaTable (r % 10 * 16 + i) 0
 -- ---- 3.1, the mixing function G: a += b + x; d = (d ^ a) >>> 32; c += d; b = (b ^ c) >>> 24; a += b + y; d = (d ^ a) >>> 16;
 -- c += d; b = (b ^ c) >>> 63
 
-unfoldable pub mixed : ℕ → ℕ → ℕ → ℕ → ℕ → ℕ → Four
+unfoldable pub mixed : ℕ → ℕ → ℕ → ℕ → ℕ → ℕ → Quad
 mixed a b c d x y =
     let a₁ = sumMod 64 (sumMod 64 a b) x in
     let d₁ = rotr 64 32 (bitXor d a₁) in
@@ -60,7 +60,7 @@ unfoldable pub wordAt : List ℕ → ℕ → ℕ → ℕ
 wordAt m r i = getD m (sigma r i) 0
 
 -- the n-th mixing of round r takes the words 2n and 2n + 1
-unfoldable pub mixing : List ℕ → ℕ → ℕ → ℕ → ℕ → ℕ → ℕ → Four
+unfoldable pub mixing : List ℕ → ℕ → ℕ → ℕ → ℕ → ℕ → ℕ → Quad
 mixing m r n a b c d = mixed a b c d (wordAt m r (2 * n)) (wordAt m r (2 * n + 1))
 
 -- ---- 3.2, the compression function F

@@ -15,7 +15,7 @@ ghost use Rattle.words.specs.Words.{words, unwords};
 ghost use Rattle.blake.specs.Blake.{sigmaTable, sigma, mixed, wordAt, mixing, round, rounds, vector, folded, compress, padded, startChain, absorbed, hashed};
 ghost use Rattle.blake.specs.Entry.{digesting};
 
-mod schedule;
+mod tables;
 
 // Fills room with the digest of text under key, as long as the room. Answers 0, or the refusal.
 pub fn digest(key: &[u8], text: &[u8], room: &mut [u8]) -> u32
@@ -69,16 +69,9 @@ fn start_chain(kk: usize, nn: usize) -> [u64; 8]
     requires { ⌜ (kk ≤ 64) × (nn ≤ 64) ⌝ }
     ensures { λ r. ⌜ r ≡ startChain kk nn ⌝ }
 {
-    [
-        0x6a09e667f3bcc908 ^ (0x01010000 ^ (kk as u64 * 256) ^ nn as u64),
-        0xbb67ae8584caa73b,
-        0x3c6ef372fe94f82b,
-        0xa54ff53a5f1d36f1,
-        0x510e527fade682d1,
-        0x9b05688c2b3e6c1f,
-        0x1f83d9abfb41bd6b,
-        0x5be0cd19137e2179,
-    ]
+    let mut h = tables::IV;
+    h[0] = h[0] ^ (0x01010000 ^ (kk as u64 * 256) ^ nn as u64);
+    h
 }
 
 // All of s, which ends the data, after t bytes.
@@ -133,6 +126,7 @@ fn words_in(s: &[u8]) -> [u64; 16]
 fn vector_of(h: [u64; 8], t: u64, last: bool) -> [u64; 16]
     ensures { λ r. ⌜ r ≡ vector h t last ⌝ }
 {
+    let iv = tables::IV;
     [
         h[0],
         h[1],
@@ -142,14 +136,14 @@ fn vector_of(h: [u64; 8], t: u64, last: bool) -> [u64; 16]
         h[5],
         h[6],
         h[7],
-        0x6a09e667f3bcc908,
-        0xbb67ae8584caa73b,
-        0x3c6ef372fe94f82b,
-        0xa54ff53a5f1d36f1,
-        0x510e527fade682d1 ^ t,
-        0x9b05688c2b3e6c1f,
-        inverted(last, 0x1f83d9abfb41bd6b),
-        0x5be0cd19137e2179,
+        iv[0],
+        iv[1],
+        iv[2],
+        iv[3],
+        iv[4] ^ t,
+        iv[5],
+        inverted(last, iv[6]),
+        iv[7],
     ]
 }
 
@@ -174,7 +168,7 @@ fn folded_of(h: [u64; 8], v: [u64; 16]) -> [u64; 8]
 fn rounds_of(m: &[u64; 16], v: [u64; 16]) -> [u64; 16]
     ensures { λ r. ⌜ r ≡ rounds (now (m .entry)) v ⌝ }
 {
-    let s = schedule::SIGMA;
+    let s = tables::SIGMA;
     let mut u = v;
     let mut i: usize = 0;
     while i < 12 {
@@ -219,7 +213,7 @@ fn round_of(m: &[u64; 16], s: &[u8; 160], r: usize, v: [u64; 16]) -> [u64; 16]
 }
 
 // Four words of a vector.
-struct Four {
+struct Quad {
     a: u64,
     b: u64,
     c: u64,
@@ -227,7 +221,7 @@ struct Four {
 }
 
 // The n-th mixing of round r.
-fn mix_at(m: &[u64; 16], s: &[u8; 160], r: usize, n: usize, a: u64, b: u64, c: u64, d: u64) -> Four
+fn mix_at(m: &[u64; 16], s: &[u8; 160], r: usize, n: usize, a: u64, b: u64, c: u64, d: u64) -> Quad
     requires { ⌜ (now s ≡ sigmaTable) × (r < 12) × (n < 8) ⌝ }
     ensures { λ q. ⌜ q ≡ mixing (now (m .entry)) r n a b c d ⌝ }
 {
@@ -257,7 +251,7 @@ fn place_of(s: &[u8; 160], r: usize, i: usize) -> usize
 }
 
 // The mixing function G.
-fn mix(a: u64, b: u64, c: u64, d: u64, x: u64, y: u64) -> Four
+fn mix(a: u64, b: u64, c: u64, d: u64, x: u64, y: u64) -> Quad
     ensures { λ r. ⌜ r ≡ mixed a b c d x y ⌝ }
 {
     let a1 = wrapping_add_u64(wrapping_add_u64(a, b), x);
@@ -268,7 +262,7 @@ fn mix(a: u64, b: u64, c: u64, d: u64, x: u64, y: u64) -> Four
     let d2 = rotr64(d1 ^ a2, 16);
     let c2 = wrapping_add_u64(c1, d2);
     let b2 = rotr64(b1 ^ c2, 63);
-    Four {
+    Quad {
         a: a2,
         b: b2,
         c: c2,

@@ -40,13 +40,13 @@ pub length-sums : (s t : List ℕ) → length (sums s t) ≡ 16
 unfolding sums
 length-sums s t = length-tab (λ j. sumMod 32 (getD s j 0) (getD t j 0)) 0 0 16
 
-length-bytes : (s t : List ℕ) → length (unwords 4 (sums s t)) ≡ 64
-length-bytes s t = length-unwords 4 (sums s t) ∙ ap (λ (n : ℕ). 4 * n) (length-sums s t)
+length-written : (s t : List ℕ) → length (unwords 4 (sums s t)) ≡ 64
+length-written s t = length-unwords 4 (sums s t) ∙ ap (λ (n : ℕ). 4 * n) (length-sums s t)
 
 -- all of them, from the front of the room
 pub block-first : (s t : List ℕ) → sets (replicate 64 0) (4 * 0) (unwords 4 (drop 0 (sums s t))) ≡ unwords 4 (sums s t)
 block-first s t =
-    let l = length-bytes s t in
+    let l = length-written s t in
     let k : 64 ≤ length (unwords 4 (sums s t)) = omega arith in
     words-first 4 (replicate 64 0) (sums s t) ∙ sets-whole (replicate 64 0) (unwords 4 (sums s t)) k ∙ take-all 64 (unwords 4 (sums s t)) (omega arith)
 
@@ -56,4 +56,4 @@ block-is s t out e f = rw (f, e)
 
 pub length-block : (s : List ℕ) → length (blockFrom s) ≡ 64
 unfolding blockFrom
-length-block s = length-bytes s (rounds s)
+length-block s = length-written s (rounds s)

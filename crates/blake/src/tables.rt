@@ -1,3 +1,15 @@
+// The initialization vector (RFC 7693, 2.6).
+pub const IV: [u64; 8] = [
+    0x6a09e667f3bcc908,
+    0xbb67ae8584caa73b,
+    0x3c6ef372fe94f82b,
+    0xa54ff53a5f1d36f1,
+    0x510e527fade682d1,
+    0x9b05688c2b3e6c1f,
+    0x1f83d9abfb41bd6b,
+    0x5be0cd19137e2179,
+];
+
 // The places in the message that each round takes its words from, sixteen for each of ten rounds (RFC 7693, 2.7).
 pub const SIGMA: [u8; 160] = [
     0,
