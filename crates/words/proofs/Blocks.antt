@@ -8,14 +8,15 @@ use lib.Arith.{digits-lt}
 use lib.Bits.{bitXor, xor-block}
 use lib.ListN.{length, take, drop, length-take, length-drop}
 use lib.Pow.{split, high, low}
-use lib.Seq.{drop-drop, sets, take-all, take-append-le, take-append-add}
+use lib.Dec.{lit<}
+use lib.Seq.{drop-drop, sets, sets-eq, take-all, take-at, take-append-le, take-append-add, length-take-le}
 use Rattle.words.specs.declared.Block.{Block}
 use Rattle.words.specs.Block.{value, halves, part, loaded, stored}
 use Rattle.words.specs.Bytes.{Bytes, number, bytes, filled}
 use Rattle.words.specs.Digits.{xsum}
 use Rattle.words.proofs.Sums.{xsum-next}
 use Rattle.words.proofs.Lists.{length-part, drop-take, sets-append, sets-cut, sets-whole}
-use Rattle.words.proofs.Bytes.{bytes-take, bytes-drop, bytes-filled, number-lt, number-split, number-zeros, length-bytes, take-bytes, bytes-append, length-filled, filled-same, filled-full, take-filled, drop-filled, drop-filled-past}
+use Rattle.words.proofs.Bytes.{bytes-take, bytes-drop, bytes-filled, number-lt, number-split, number-zeros, length-bytes, bytes-number, take-bytes, bytes-append, length-filled, filled-same, filled-full, take-filled, drop-filled, drop-filled-past}
 
 pub value-halves : (x : ℕ) → value (halves x) ≡ x
 unfolding value halves
@@ -138,3 +139,23 @@ stored-all s x e =
     let l = length-bytes 16 x in
     let k : length s ≤ length (bytes 16 x) = omega arith in
     ap (sets s 0) (take-all 16 (bytes 16 x) (omega arith)) ∙ sets-whole s (bytes 16 x) k ∙ take-all (length s) (bytes 16 x) (omega arith)
+
+-- ---- some of the bytes of a block, there and back
+
+-- those that were loaded
+pub loaded-back : (s : List ℕ) (at n : ℕ) → Bytes s → n ≤ 16 → n ≤ length s - at → take n (bytes 16 (loaded s at n)) ≡ part s at n
+unfolding loaded
+loaded-back s at n h k there =
+    let p = part s at n in
+    let f = filled 0 16 p in
+    let lp : length p ≡ n = length-part s at n there in
+    let hf : Bytes f = bytes-filled 0 16 p (lit< tt) (bytes-take n (drop at s) (bytes-drop at s h)) in
+    ap (take n) (ap (λ (i : ℕ). bytes i (number f)) (sym (length-filled 0 16 p)) ∙ bytes-number f hf) ∙ take-filled 0 n 16 p k ∙ filled-full 0 n p lp
+
+-- those that were stored in room for a block
+pub stored-back : (s : List ℕ) (n x : ℕ) → length s ≡ 16 → n ≤ 16 → part (stored s 0 n x) 0 n ≡ take n (bytes 16 x)
+unfolding stored
+stored-back s n x ls h =
+    let v = take n (bytes 16 x) in
+    let lv : length v ≡ n = length-take-le n (bytes 16 x) (omega (arith, length-bytes 16 x)) in
+    ap (take n) (sets-eq v s 0 (omega arith)) ∙ take-at v (drop (0 + length v) s) n lv

@@ -74,6 +74,10 @@ bytes-number [] h = refl
 bytes-number (b ∷ s) h =
     ap₂ _∷_ (digits-mod (number s) (h 0)) (ap (bytes (length s)) (digits-div (number s) (h 0)) ∙ bytes-number s (λ i. h (suc i)))
 
+-- as many bytes of one number are the same bytes
+pub number-inj : (s t : List ℕ) → Bytes s → Bytes t → length s ≡ length t → number s ≡ number t → s ≡ t
+number-inj s t hs ht l e = sym (bytes-number s hs) ∙ ap₂ bytes l e ∙ bytes-number t ht
+
 pub take-bytes : (k n x : ℕ) → take k (bytes n x) ≡ bytes (min k n) x
 unfolding bytes
 take-bytes zero n x = let e : min 0 n ≡ 0 = omega arith in rw e

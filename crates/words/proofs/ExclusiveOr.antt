@@ -5,7 +5,7 @@ use Prim.Native.Nat.{ℕ, zero, suc, _+_, _*_, _/_, _%_, _<_}
 use native.Mathlib.Nat.{mod-lt, zero-lt-suc}
 use native.Mathlib.Omega.{arith}
 use lib.Arith.{bin-ind}
-use lib.Bits.{bitXor, differ, xor-step, xor-shr, xor-mod, xor-self, xor-zero-r}
+use lib.Bits.{bitOr, bitXor, differ, xor-step, xor-shr, xor-mod, xor-self, xor-zero-r, or-add-and, and-le-l, and-le-r}
 
 bit-xor : (y z : ℕ) → y < 2 → z < 2 → differ y z ≡ bitXor y z
 bit-xor zero z hy hz = refl
@@ -40,3 +40,10 @@ xor-undo a k = xor-assoc a k k ∙ ap (bitXor a) (xor-self k) ∙ xor-zero-r a
 
 pub xor-cancel : (k : ℕ) {a b : ℕ} → bitXor a k ≡ bitXor b k → a ≡ b
 xor-cancel k {a} {b} e = sym (xor-undo a k) ∙ ap (λ (x : ℕ). bitXor x k) e ∙ xor-undo b k
+
+-- numbers whose sum is zero are equal
+pub xor-zero : (a b : ℕ) → bitXor a b ≡ 0 → a ≡ b
+xor-zero a b e = xor-cancel b (e ∙ sym (xor-self b))
+
+pub or-zero : (a b : ℕ) → bitOr a b ≡ 0 → (a ≡ 0) × (b ≡ 0)
+or-zero a b e = (omega (arith, or-add-and a b, and-le-r a b), omega (arith, or-add-and a b, and-le-l a b))

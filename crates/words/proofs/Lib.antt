@@ -7,6 +7,7 @@ pub mod Turns
 pub mod Lists
 pub mod Bytes
 pub mod Plus
+pub mod Over
 pub mod Words
 pub mod Blocks
 pub mod WordLists

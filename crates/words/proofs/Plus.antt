@@ -2,16 +2,16 @@
 -- Assumes nothing.
 use mathlib.Core.Path.{_≡_, refl, sym, ap, ap₂, _∙_}
 use mathlib.Core.List.{List, [], _∷_, _++_, append-nil}
-use Prim.Native.Nat.{ℕ, zero, suc, _+_, _-_, _≤_, _<_, min}
+use Prim.Native.Nat.{ℕ, zero, suc, _+_, _-_, _/_, _≤_, _<_, min}
 use native.Mathlib.Decide.{decLe}
 use native.Mathlib.Nat.{zero-add, suc-add, suc-inj, not-suc-le-zero, le-of-suc-le-suc}
 use native.Mathlib.Numerals.{add-one}
 use native.Mathlib.Omega.{arith}
-use lib.Bits.{bitXor}
+use lib.Bits.{bitXor, xor-lt, xor-mod, xor-shr}
 use lib.ListN.{length, getD, take, drop, set, replicate, length-take, length-drop, take-append-drop, drop-of-length-le}
 use lib.Seq.{drop-cons, getD-take, getD-drop, take-all}
 use Rattle.words.specs.Block.{part}
-use Rattle.words.specs.Bytes.{plus, plusAt}
+use Rattle.words.specs.Bytes.{Bytes, bytes, plus, plusAt}
 use Rattle.words.proofs.ExclusiveOr.{xor-undo}
 
 pub plus-none : (s : List ℕ) → plus s [] ≡ s
@@ -39,6 +39,28 @@ plus-append [] b [] y e = refl
 plus-append [] b (q ∷ x) y e = absurd (omega arith)
 plus-append (p ∷ a) b [] y e = absurd (omega arith)
 plus-append (p ∷ a) b (q ∷ x) y e = ap (λ (r : List ℕ). bitXor p q ∷ r) (plus-append a b x y (suc-inj e))
+
+-- to the first k bytes
+pub plus-take : (k : ℕ) (s t : List ℕ) → plus (take k s) t ≡ take k (plus s t)
+unfolding plus
+plus-take zero s t = refl
+plus-take (suc k) [] t = refl
+plus-take (suc k) (b ∷ s) [] = refl
+plus-take (suc k) (b ∷ s) (c ∷ t) = ap (λ (r : List ℕ). bitXor b c ∷ r) (plus-take k s t)
+
+-- of bytes
+pub bytes-plus : (s t : List ℕ) → Bytes s → Bytes t → Bytes (plus s t)
+unfolding plus
+bytes-plus [] t hs ht i = hs i
+bytes-plus (b ∷ s) [] hs ht i = hs i
+bytes-plus (b ∷ s) (c ∷ t) hs ht zero = xor-lt 8 b c (hs 0) (ht 0)
+bytes-plus (b ∷ s) (c ∷ t) hs ht (suc i) = bytes-plus s t (λ j. hs (suc j)) (λ j. ht (suc j)) i
+
+-- the bytes of a sum
+pub bytes-xor : (n x y : ℕ) → bytes n (bitXor x y) ≡ plus (bytes n x) (bytes n y)
+unfolding plus bytes
+bytes-xor zero x y = refl
+bytes-xor (suc n) x y = ap₂ _∷_ (xor-mod x y 8) (ap (bytes n) (xor-shr x y 8) ∙ bytes-xor n (x / 256) (y / 256))
 
 -- to zeros
 pub plus-zeros : (n : ℕ) (t : List ℕ) → length t ≡ n → plus (replicate n 0) t ≡ t

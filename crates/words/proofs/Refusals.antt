@@ -5,7 +5,7 @@ use mathlib.Core.Bool.{Bool, true, false}
 use mathlib.Core.List.{List, [], _∷_}
 use Prim.Native.Nat.{ℕ}
 use Rattle.words.specs.Pick.{pick}
-use Rattle.words.specs.Refuse.{Row, Answer, answer, answered}
+use Rattle.words.specs.Refuse.{Row, Answer, answered, refuse, answer}
 
 -- two results of one equation are equal
 pub same : {A : Type 0} {x y z : A} → x ≡ z → y ≡ z → x ≡ y
@@ -57,6 +57,26 @@ module _ {A : Type 0} (done kept : A) where
           → Undone back (record { applies = t; number = r .number } ∷ rs)
       by true k rest = refl
       by false k rest = rest (λ c. k (refl, c))
+
+-- the number that rows give by themselves
+abbrev pub numberOf : List Row → ℕ
+numberOf rows = answer {A = ℕ} rows 0 0 .number
+
+module _ {A : Type 0} (kept : A) (follows : Answer A) where
+  -- where it is not 0, it is answered
+  pub refuse-given : (rows : List Row) → (numberOf rows ≡ 0 → ⊥) → refuse rows kept follows ≡ answered (numberOf rows) kept
+  refuse-given [] h = absurd (h refl)
+  refuse-given (r ∷ rs) h = by (r .applies) h (refuse-given rs)
+    where
+      by : (t : Bool) → (pick t (answered {A = ℕ} (r .number) 0) (answer rs 0 0) .number ≡ 0 → ⊥) → ((numberOf rs ≡ 0 → ⊥) → refuse rs kept follows ≡ answered (numberOf rs) kept)
+          → pick t (answered (r .number) kept) (refuse rs kept follows) ≡ answered (pick t (answered {A = ℕ} (r .number) 0) (answer rs 0 0) .number) kept
+      by true k rest = refl
+      by false k rest = rest k
+
+  -- where no row applies, it goes on
+  pub refuse-clear : (rows : List Row) → Clear rows → refuse rows kept follows ≡ follows
+  refuse-clear [] c = refl
+  refuse-clear (r ∷ rs) c = rw (c .0) (refuse-clear rs (c .1))
 
 -- an entry point that works in place on memory x, and one that undoes it: where the outputs are judged as x was and are
 -- undone, the second call answers the same number and leaves x, whether x was refused or not

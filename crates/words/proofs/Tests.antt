@@ -1,6 +1,6 @@
 -- Tests: one of two numbers by a test, and a fact about every number below a bound from one test that antt computes.
 -- Assumes nothing.
-use mathlib.Core.Path.{subst⁻¹}
+use mathlib.Core.Path.{_≡_, refl, subst⁻¹}
 use mathlib.Core.Logic.{⊎-elim}
 use mathlib.Core.Bool.{Bool, true, false}
 use Prim.Native.Nat.{ℕ, zero, suc, _<_}
@@ -35,3 +35,8 @@ below f (suc n) t k l =
     ⊎-elim (λ e. subst⁻¹ (λ (x : ℕ). T (f x)) e (both-left (f n) (allBelow f n) t))
     (λ m. below f n (both-right (f n) (allBelow f n) t) k m)
     (eq-or-lt-of-le (le-of-suc-le-suc l))
+
+-- a function of one of two
+pub pick-of : {A B : Type 0} (f : A → B) (t : Bool) (a b : A) → f (pick t a b) ≡ pick t (f a) (f b)
+pick-of f true a b = refl
+pick-of f false a b = refl

@@ -3,7 +3,7 @@
 use Prim.Native.Nat.{ℕ, zero, suc, _+_, _*_, _/_, _%_, _<_}
 use mathlib.Core.List.{List, [], _∷_, _++_}
 use lib.Bits.{bitXor}
-use lib.ListN.{getD, take, drop, replicate}
+use lib.ListN.{length, getD, take, drop, replicate}
 
 -- each element is a byte (past the end getD gives 0)
 abbrev pub Bytes : List ℕ → Type 0
@@ -38,3 +38,7 @@ plus (b ∷ s) (c ∷ t) = bitXor b c ∷ plus s t
 -- s with t added from place at on
 unfoldable pub plusAt : ℕ → List ℕ → List ℕ → List ℕ
 plusAt at s t = take at s ++ plus (drop at s) t
+
+-- room with the bytes of out in front; "the rest of longer room keeps its bytes"
+unfoldable pub over : List ℕ → List ℕ → List ℕ
+over out room = out ++ drop (length out) room

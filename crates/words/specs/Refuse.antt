@@ -15,12 +15,16 @@ pub record Answer (A : Type 0) : Type 0 where
   pub number : ℕ
   pub left : A
 
--- of the rows, which stand in the order of their numbers, the first that applies, and the memory as it was;
--- where none does 0, and the outputs
-abbrev pub answer : {A : Type 0} → List Row → A → A → Answer A
-answer [] done kept = record { number = 0; left = done }
-answer (r ∷ rs) done kept = pick (r .applies) (record { number = r .number; left = kept }) (answer rs done kept)
-
 -- what a call answered and left
 abbrev pub answered : {A : Type 0} → ℕ → A → Answer A
 answered n a = record { number = n; left = a }
+
+-- of the rows, which stand in the order of their numbers, the first that applies, with the memory that it keeps;
+-- where none does, what follows
+abbrev pub refuse : {A : Type 0} → List Row → A → Answer A → Answer A
+refuse [] kept follows = follows
+refuse (r ∷ rs) kept follows = pick (r .applies) (answered (r .number) kept) (refuse rs kept follows)
+
+-- the first that applies, with the memory as it was; where none does 0, and the outputs
+abbrev pub answer : {A : Type 0} → List Row → A → A → Answer A
+answer rows done kept = refuse rows kept (answered 0 done)

@@ -1,0 +1,4 @@
+pub mod Cuts
+pub mod Trip
+pub mod Steps
+pub mod Entry

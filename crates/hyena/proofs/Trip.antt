@@ -1,0 +1,168 @@
+-- The output is as long as the text, and opening what sealing gave returns the text and the tag: over every block function.
+-- Assumes nothing.
+use mathlib.Core.Path.{_≡_, refl, sym, ap, ap₂, subst, _∙_}
+use mathlib.Core.Bool.{Bool, true, false}
+use mathlib.Core.List.{List, [], _++_, append-assoc}
+use Prim.Native.Nat.{ℕ, zero, suc, _+_, _-_, _*_, _/_, _≤_, _<_}
+use native.Mathlib.Nat.{mul-suc}
+use native.Mathlib.Omega.{arith}
+use borrow.Author.Tests.{eqb-true, eqb-false, eq-eqb, ne-eqb}
+use lib.Dec.{eqb}
+use lib.ListN.{length, take, drop, length-append, take-append-drop}
+use lib.Seq.{take-all, take-at, drop-at, take-add}
+use Rattle.words.specs.Bytes.{bytes, plus}
+use Rattle.words.specs.Pick.{pick}
+use Rattle.words.specs.Turns.{turns}
+use Rattle.words.proofs.Plus.{length-plus, plus-twice}
+use Rattle.hyena.specs.Hyena.{Fed, State, before, blockAt, last, full, empty, walk, output, feed, startBlock, dataFirst, dataEach, dataLast, afterData, textBlock, afterText, ended, outputs, tag, swapped}
+use Rattle.hyena.proofs.Cuts.{block-length, last-length, before-append, last-append}
+
+pub length-output : (d : List ℕ) (y : ℕ) → length (output d y) ≡ length d
+unfolding output
+length-output d y = length-plus d (bytes 16 y)
+
+-- ---- the text, block by block
+
+-- the state before block i
+abbrev pub textAt : (ℕ → ℕ) → Bool → List ℕ → State → ℕ → State
+textAt E opening s t i = turns (λ j u. textBlock E opening 1 u (blockAt s j)) i t
+
+module _ (E : ℕ → ℕ) (opening : Bool) where
+  pub block-out : (k : ℕ) (t : State) (d : List ℕ) → textBlock E opening k t d .out ≡ t .out ++ output d (E (t .X))
+  unfolding textBlock
+  block-out k t d = refl
+
+  length-out : (k : ℕ) (t : State) (d : List ℕ) → length (textBlock E opening k t d .out) ≡ length (t .out) + length d
+  length-out k t d =
+      ap length (block-out k t d) ∙ length-append (t .out) (output d (E (t .X))) ∙ ap (λ (n : ℕ). length (t .out) + n) (length-output d (E (t .X)))
+
+  pub text-none : (t : State) (s : List ℕ) → length s ≡ 0 → afterText E opening t s ≡ t
+  unfolding afterText
+  text-none t s e = rw (eq-eqb (length s) 0 e)
+
+  pub text-some : (t : State) (s : List ℕ) → (length s ≡ 0 → ⊥) → afterText E opening t s ≡ textBlock E opening (pick (full (last s)) 2 3) (textAt E opening s t (before s)) (last s)
+  unfolding afterText walk
+  text-some t s h = rw (ne-eqb (length s) 0 h)
+
+  module _ (t : State) (none : t .out ≡ []) (s : List ℕ) where
+    pub length-at : (i : ℕ) → i ≤ before s → length (textAt E opening s t i .out) ≡ 16 * i
+    unfolding turns
+    length-at zero h = ap length none
+    length-at (suc i) h = omega (arith, length-out 1 (textAt E opening s t i) (blockAt s i), length-at i (omega arith), block-length s i h)
+
+    pub length-text : length (afterText E opening t s .out) ≡ length s
+    length-text = by (eqb (length s) 0) refl
+      where
+        by : (b : Bool) → eqb (length s) 0 ≡ b → length (afterText E opening t s .out) ≡ length s
+        by true e = let n = eqb-true (length s) 0 e in ap (λ (u : State). length (u .out)) (text-none t s n) ∙ ap length none ∙ sym n
+        by false e =
+            let k : ℕ = pick (full (last s)) 2 3 in
+            let some = eqb-false (length s) 0 e in
+            ap (λ (u : State). length (u .out)) (text-some t s some)
+            ∙ omega (arith, length-out k (textAt E opening s t (before s)) (last s), length-at (before s) (omega arith), last-length s)
+
+-- ---- opening undoes sealing
+
+module _ (E : ℕ → ℕ) where
+  -- a block that was sealed, from the same state: the block comes back, and the next state is the same
+  block-trip : (k : ℕ) (t : State) (o d : List ℕ)
+      → textBlock E true k (record { X = t .X; Δ = t .Δ; out = o }) (output d (E (t .X)))
+      ≡ record { X = textBlock E false k t d .X; Δ = textBlock E false k t d .Δ; out = o ++ d }
+  unfolding textBlock feed output
+  block-trip k t o d = rw plus-twice
+
+  module _ (t : State) (none : t .out ≡ []) (m : List ℕ) where
+    sealedAt : ℕ → State
+    sealedAt i = textAt E false m t i
+
+    -- whatever follows what was sealed so far
+    blocks-trip : (i : ℕ) (r : List ℕ) → i ≤ before m
+        → textAt E true (sealedAt i .out ++ r) t i ≡ record { X = sealedAt i .X; Δ = sealedAt i .Δ; out = take (16 * i) m }
+    unfolding sealedAt turns
+    blocks-trip zero r h = ap (λ (o : List ℕ). record { X = t .X; Δ = t .Δ; out = o }) none
+    blocks-trip (suc i) r h =
+        let u = sealedAt i in
+        let d = blockAt m i in
+        let c = output d (E (u .X)) in
+        ap (λ (z : List ℕ). textBlock E true 1 (textAt E true z t i) (blockAt z i))
+        (ap (λ (z : List ℕ). z ++ r) (block-out E false 1 u d) ∙ append-assoc (u .out) c r)
+        ∙ ap₂ (textBlock E true 1) (blocks-trip i (c ++ r) (omega arith))
+        (ap (take 16) (drop-at (u .out) (c ++ r) (16 * i) (length-at E false t none m i (omega arith)))
+        ∙ take-at c r 16 (length-output d (E (u .X)) ∙ block-length m i h))
+        ∙ block-trip 1 u (take (16 * i) m) d
+        ∙ ap (λ (z : List ℕ). record { X = sealedAt (suc i) .X; Δ = sealedAt (suc i) .Δ; out = z })
+        (sym (take-add (16 * i) 16 m) ∙ ap (λ (n : ℕ). take n m) (sym (mul-suc 16 i)))
+
+    -- the state of sealing, with the text in place of the ciphertext
+    opened : State → State
+    opened u = record { X = u .X; Δ = u .Δ; out = m }
+
+    none-trip : length m ≡ 0 → afterText E true t (afterText E false t m .out) ≡ opened (afterText E false t m)
+    unfolding opened
+    none-trip e =
+        let q = text-none E false t m e in
+        ap (λ (u : State). afterText E true t (u .out)) q
+        ∙ text-none E true t (t .out) (ap length none)
+        ∙ ap₂ (λ (u : State) (o : List ℕ). record { X = u .X; Δ = u .Δ; out = o }) (sym q) (none ∙ take-all 0 m (omega arith))
+
+    some-trip : (length m ≡ 0 → ⊥) → afterText E true t (afterText E false t m .out) ≡ opened (afterText E false t m)
+    unfolding opened sealedAt
+    some-trip some =
+        let n = before m in
+        let l = last m in
+        let u = sealedAt n in
+        let c = output l (E (u .X)) in
+        let k : ℕ = pick (full l) 2 3 in
+        let q : afterText E false t m ≡ textBlock E false k u l = text-some E false t m some in
+        let lu : length (u .out) ≡ 16 * n = length-at E false t none m n (omega arith) in
+        let lc : length c ≡ length l = length-output l (E (u .X)) in
+        let lm = last-length m in
+        let low : 0 < length c = omega arith in
+        let high : length c ≤ 16 = omega arith in
+        let nothing : length (u .out ++ c) ≡ 0 → ⊥ = λ e. omega (arith, length-append (u .out) c) in
+        ap (λ (z : State). afterText E true t (z .out)) q
+        ∙ ap (afterText E true t) (block-out E false k u l)
+        ∙ text-some E true t (u .out ++ c) nothing
+        ∙ ap₂ (λ (i : ℕ) (z : List ℕ). textBlock E true (pick (full z) 2 3) (textAt E true (u .out ++ c) t i) z)
+        (before-append (u .out) c n lu low high) (last-append (u .out) c n lu low high)
+        ∙ ap₂ (λ (b : Bool) (z : State). textBlock E true (pick b 2 3) z c) (ap (λ (i : ℕ). eqb i 16) lc) (blocks-trip n c (omega arith))
+        ∙ block-trip k u (take (16 * n) m) l
+        ∙ ap₂ (λ (z : State) (o : List ℕ). record { X = z .X; Δ = z .Δ; out = o }) (sym q) (take-append-drop (16 * n) m)
+
+    text-trip : afterText E true t (afterText E false t m .out) ≡ opened (afterText E false t m)
+    text-trip = by (eqb (length m) 0) refl
+      where
+        by : (b : Bool) → eqb (length m) 0 ≡ b → afterText E true t (afterText E false t m .out) ≡ opened (afterText E false t m)
+        by true e = none-trip (eqb-true (length m) 0 e)
+        by false e = some-trip (eqb-false (length m) 0 e)
+
+-- ---- all of it
+
+pub data-out : (E : ℕ → ℕ) (f : Fed) (a : List ℕ) → afterData E f a .out ≡ []
+unfolding afterData walk dataLast
+data-out E f a = by (empty a)
+  where
+    by : (b : Bool) → pick b (dataLast 2 f (bytes 16 1)) (dataLast (pick (full (last a)) 1 2) (turns (λ i u. dataEach E u (blockAt a i)) (before a) f) (last a)) .out ≡ []
+    by true = refl
+    by false = refl
+
+module _ (E : ℕ → ℕ) (nonce a : List ℕ) where
+  -- the state after the associated data, for a text of n bytes
+  abbrev begun : ℕ → State
+  begun n = afterData E (dataFirst (E (startBlock nonce (length a) n))) a
+
+  pub length-outputs : (opening : Bool) (d : List ℕ) → length (outputs E opening nonce a d) ≡ length d
+  unfolding outputs ended
+  length-outputs opening d =
+      length-text E opening (begun (length d)) (data-out E (dataFirst (E (startBlock nonce (length a) (length d)))) a) d
+
+  ended-trip : (m : List ℕ) → ended E true nonce a (outputs E false nonce a m) ≡ record { X = ended E false nonce a m .X; Δ = ended E false nonce a m .Δ; out = m }
+  unfolding ended outputs opened
+  ended-trip m =
+      ap (λ (n : ℕ). afterText E true (begun n) (outputs E false nonce a m)) (length-outputs false m)
+      ∙ text-trip E (begun (length m)) (data-out E (dataFirst (E (startBlock nonce (length a) (length m)))) a) m
+
+  -- opening what sealing gave returns the text, and the recomputed tag is the sealed one
+  pub round-trip : (m : List ℕ) → (outputs E true nonce a (outputs E false nonce a m) ≡ m) × (tag E true nonce a (outputs E false nonce a m) ≡ tag E false nonce a m)
+  unfolding outputs tag
+  round-trip m = (ap (λ (t : State). t .out) (ended-trip m), ap (λ (t : State). E (swapped (t .X))) (ended-trip m))

@@ -1,0 +1,41 @@
+use denote.Ref.{now}
+use Rattle.hyena.proofs.Entry.{ran}
+use borrow.Author.Needs.{needs}
+use Rattle.hyena.proofs.run.Statement.{statement}
+use Rattle.hyena.proofs.run.Tie as tie
+
+load-requires : tie.Need-load-requires
+load-requires c κs = search needs
+
+keyed-of-requires : tie.Need-keyed-of-requires
+keyed-of-requires c κs = search needs
+
+start-requires : tie.Need-start-requires
+start-requires c κs = search needs
+
+data-requires : tie.Need-data-requires
+data-requires c κs = search needs
+
+texts-requires : tie.Need-texts-requires
+texts-requires c κs = search needs
+
+tag-of-requires : tie.Need-tag-of-requires
+tag-of-requires c κs = search needs
+
+same-length : tie.Need-same-length
+same-length c = search needs
+
+returns : tie.Need-returns
+returns c =
+    let x = c .before .before .before in
+    let d = x .before .before in
+    let s = d .before in
+    let e = s .before in
+    let l = e .before in
+    let b = l .before .before .before .before .before .before in
+    let a = b .args in
+    ran (a .opening) (now (a .key)) (now (a .nonce)) (now (a .ad)) (now (a .text)) (now (a .room)) (e .keyed-of .result) (b .pre .0)
+    (l .load .ensures) (e .keyed-of .ensures) (s .start .ensures) (d .«data» .ensures) (x .texts .ensures .0) (x .texts .ensures .1) (c .tag-of .ensures)
+
+pub run-spec : {M : Type 1} → statement M
+run-spec = tie.close (tie.spec load-requires keyed-of-requires start-requires data-requires texts-requires tag-of-requires same-length returns)

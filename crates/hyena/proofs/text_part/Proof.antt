@@ -1,0 +1,35 @@
+use mathlib.Core.Path.{ap}
+use native.Mathlib.Omega.{arith}
+use denote.Ref.{now}
+use Rattle.words.specs.Bytes.{Bytes}
+use Rattle.hyena.specs.Steps.{enciphers}
+use Rattle.hyena.proofs.Steps.{part-is}
+use borrow.Author.Needs.{needs}
+use Rattle.hyena.proofs.text_part.Statement.{statement}
+use Rattle.hyena.proofs.text_part.Tie as tie
+
+load-requires : tie.Need-load-requires
+load-requires c κs = search needs
+
+text-block-requires : tie.Need-text-block-requires
+text-block-requires c κs = search needs
+
+store-requires : tie.Need-store-requires
+store-requires c κs = search needs
+
+same-length : tie.Need-same-length
+same-length c = search needs
+
+returns : tie.Need-returns
+returns c =
+    let s = c .before .before .before in
+    let t = s .before .before in
+    let k = t .before .before .before in
+    let d = k .before in
+    let a = d .args in
+    let h : Bytes (now (a .text)) = λ i. omega (arith, k .shared-slice-known .given i) in
+    part-is (enciphers (a .e)) (a .opening) (now (a .text)) h (a .t) (a .k) (a .at) (a .n) (now (a .room)) (d .pre .0) (d .pre .1) (t .before .load .ensures)
+    (ap (λ u. u .after) (t .text-block .ensures)) (ap (λ u. u .out) (t .text-block .ensures)) (s .store .ensures)
+
+pub text-part-spec : {M : Type 1} → statement M
+text-part-spec = tie.close (tie.spec load-requires text-block-requires store-requires same-length returns)

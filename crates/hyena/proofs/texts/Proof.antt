@@ -1,0 +1,89 @@
+use mathlib.Core.Path.{_≡_, refl, sym, ap, subst, _∙_}
+use Prim.Native.Nat.{_-_, _≤_, _<_}
+use native.Mathlib.Omega.{arith}
+use denote.Ref.{now}
+use lib.ListN.{length}
+use Rattle.hyena.specs.Hyena.{before}
+use Rattle.hyena.specs.Steps.{enciphers, stateOf}
+use Rattle.hyena.proofs.Trip.{textAt}
+use Rattle.hyena.proofs.Steps.{Held, text-start, text-turn, text-end, text-empty}
+use borrow.Author.Needs.{needs}
+use Rattle.hyena.proofs.texts.Statement.{statement}
+use Rattle.hyena.proofs.texts.Tie as tie
+
+abbrev Inv-loop : tie.InvT-loop
+Inv-loop opening e text room₀ n s₀ i₀ room s i =
+    (i ≤ n) × (length room ≡ length room₀) × Held (textAt (enciphers e) opening text (stateOf s₀) i) room₀ s room
+
+abbrev μ-loop : tie.MeasureT-loop
+μ-loop opening e text room₀ n s₀ i₀ room s i = n - i
+
+returns : tie.Need-returns Inv-loop μ-loop
+returns c =
+    let a = c .before .before .before .args in
+    text-empty (enciphers (a .e)) (a .opening) (a .t) (now (a .text)) (now (a .room)) (omega arith) (c .if1 .taken)
+
+sub-n : tie.Need-sub-n Inv-loop μ-loop
+sub-n c = search needs
+
+loop-holds : tie.Need-loop-holds Inv-loop μ-loop
+loop-holds c =
+    let a = c .before .before .before .args in
+    (omega arith, refl, text-start (enciphers (a .e)) (a .opening) (a .t) (now (a .text)) (now (a .room)) (omega arith))
+
+mul-text-part : tie.Need-mul-text-part Inv-loop μ-loop
+mul-text-part c = search needs
+
+text-part-requires : tie.Need-text-part-requires Inv-loop μ-loop
+text-part-requires c κs = search needs
+
+add-i : tie.Need-add-i Inv-loop μ-loop
+add-i c = search needs
+
+loop-less : tie.Need-loop-less Inv-loop μ-loop
+loop-less c = search needs
+
+loop-again : tie.Need-loop-again Inv-loop μ-loop
+loop-again c =
+    let p = c .before .before in
+    let l = p .before .before .before in
+    let d = l .before .before .before .before in
+    let a = d .args in
+    let t : l .loop .i < before (now (a .text)) = omega arith in (
+      omega arith,
+      search needs,
+      text-turn (enciphers (a .e)) (a .opening) (now (a .text)) (now (a .room)) (d .pre) (stateOf (a .t)) refl (l .loop .i) t (l .loop .inv .2) (p .text-part .ensures .0) (p .text-part .ensures .1),
+    )
+
+mul-left : tie.Need-mul-left Inv-loop μ-loop
+mul-left c = search needs
+
+sub-left : tie.Need-sub-left Inv-loop μ-loop
+sub-left c = search needs
+
+if-full-requires : tie.Need-if-full-requires Inv-loop μ-loop
+if-full-requires c κs = search needs
+
+mul-text-part-2 : tie.Need-mul-text-part-2 Inv-loop μ-loop
+mul-text-part-2 c = search needs
+
+text-part-requires-2 : tie.Need-text-part-requires-2 Inv-loop μ-loop
+text-part-requires-2 c κs = search needs
+
+same-length : tie.Need-same-length Inv-loop μ-loop
+same-length c = search needs
+
+returns-2 : tie.Need-returns-2 Inv-loop μ-loop
+returns-2 c =
+    let p = c .before .before in
+    let f = p .before .before in
+    let l = f .before .before in
+    let d = l .before .before .before .before in
+    let a = d .args in
+    let e : l .loop .i ≡ before (now (a .text)) = omega arith in
+    text-end (enciphers (a .e)) (a .opening) (now (a .text)) (now (a .room)) (d .pre) (stateOf (a .t)) refl _ (l .before .if1 .left)
+    (subst (λ i. Held (textAt (enciphers (a .e)) (a .opening) (now (a .text)) (stateOf (a .t)) i) (now (a .room)) (l .loop .s) (l .loop .room)) e (l .loop .inv .2))
+    (f .if-full .ensures) (p .text-part2 .ensures .0) (p .text-part2 .ensures .1)
+
+pub texts-spec : {M : Type 1} → statement M
+texts-spec = tie.close (tie.spec Inv-loop μ-loop returns sub-n loop-holds mul-text-part text-part-requires add-i loop-less loop-again mul-left sub-left if-full-requires mul-text-part-2 text-part-requires-2 same-length returns-2)

@@ -1,0 +1,3 @@
+pub mod Hyena
+pub mod Entry
+pub mod Steps
