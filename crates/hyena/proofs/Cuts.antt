@@ -72,7 +72,7 @@ module _ {A B : Type 0} (each : A → List ℕ → A) (final : A → List ℕ �
       (ap (λ (k : ℕ). turns (λ i u. each u (blockAt d i)) k t) (sym n)
       ∙ sym (turns-same (λ i u. each u (blockAt c i)) (λ i u. each u (blockAt d i)) (before c) t (λ i u l. ap (each u) (h i l))))
 
-  -- what each step keeps on blocks of bytes, the walk has kept before the last
-  pub walk-keeps : (P : A → Type 0) → ((t : A) (d : List ℕ) → P t → Bytes d → P (each t d)) → (t : A) (s : List ℕ) (n : ℕ) → P t → Bytes s
-      → P (turns (λ i u. each u (blockAt s i)) n t)
-  walk-keeps P keep t s n h hs = turns-keep P (λ i u. each u (blockAt s i)) (λ i u p. keep u (blockAt s i) p (block-bytes s i hs)) n t h
+-- what each step keeps on blocks of bytes, n of them keep
+pub walk-keeps : {A : Type 0} (each : A → List ℕ → A) (P : A → Type 0) → ((t : A) (d : List ℕ) → P t → Bytes d → P (each t d))
+    → (t : A) (s : List ℕ) (n : ℕ) → P t → Bytes s → P (turns (λ i u. each u (blockAt s i)) n t)
+walk-keeps each P keep t s n h hs = turns-keep P (λ i u. each u (blockAt s i)) (λ i u p. keep u (blockAt s i) p (block-bytes s i hs)) n t h

@@ -58,6 +58,9 @@ ran way key nonce a d room e {k} {r} {s} {t} {u} {room′} lk ek ee es et eu er 
 
 -- ---- refusals
 
+pub numbered : (key nonce ad text tag room : List ℕ) → Numbered (refusals key nonce ad text tag room)
+numbered key nonce ad text tag room = ((λ e. omega arith), ((λ e. omega arith), ((λ e. omega arith), ((λ e. omega arith), ((λ e. omega arith), ((λ e. omega arith), tt))))))
+
 module _ (key nonce ad text tag room : List ℕ) {r : ℕ} (er : answered r 0 ≡ refusal (length key) (length nonce) (length ad) (length text) (length tag) (length room)) where
   is-number : r ≡ numberOf (refusals key nonce ad text tag room)
   unfolding refusal
@@ -67,11 +70,8 @@ module _ (key nonce ad text tag room : List ℕ) {r : ℕ} (er : answered r 0 �
   refused kept follows h =
       ap (λ (n : ℕ). answered n kept) is-number ∙ sym (refuse-given kept follows (refusals key nonce ad text tag room) (λ e. h (is-number ∙ e)))
 
-  numbered : Numbered (refusals key nonce ad text tag room)
-  numbered = ((λ e. omega arith), ((λ e. omega arith), ((λ e. omega arith), ((λ e. omega arith), ((λ e. omega arith), ((λ e. omega arith), tt))))))
-
   pub clear : r ≡ 0 → Clear (refusals key nonce ad text tag room)
-  clear e = done-clear 0 0 (refusals key nonce ad text tag room) numbered (sym is-number ∙ e)
+  clear e = done-clear 0 0 (refusals key nonce ad text tag room) (numbered key nonce ad text tag room) (sym is-number ∙ e)
 
 -- the lengths that are not refused
 module _ (key nonce ad text tag room : List ℕ) (c : Clear (refusals key nonce ad text tag room)) where

@@ -1,4 +1,9 @@
 pub mod Cuts
 pub mod Trip
+pub mod Bounds
+pub mod Differ
+pub mod Examples
 pub mod Steps
 pub mod Entry
+pub mod Demands
+pub mod Single

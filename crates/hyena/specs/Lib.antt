@@ -1,3 +1,4 @@
 pub mod Hyena
 pub mod Entry
+pub mod Demands
 pub mod Steps

@@ -25,16 +25,39 @@ abbrev pub Numbered : List Row → Type 0
 Numbered [] = Unit {0}
 Numbered (r ∷ rs) = (r .number ≡ 0 → ⊥) × Numbered rs
 
-module _ {A : Type 0} (done kept : A) where
-  -- an answer of 0 comes where no row applies
-  pub done-clear : (rows : List Row) → Numbered rows → answer rows done kept .number ≡ 0 → Clear rows
-  done-clear [] n e = tt
-  done-clear (r ∷ rs) n e = by (r .applies) e (done-clear rs (n .1))
+-- the number that rows give by themselves
+abbrev pub numberOf : List Row → ℕ
+numberOf rows = answer {A = ℕ} rows 0 0 .number
+
+module _ {A : Type 0} (kept : A) (follows : Answer A) where
+  -- where it is not 0, it is answered
+  pub refuse-given : (rows : List Row) → (numberOf rows ≡ 0 → ⊥) → refuse rows kept follows ≡ answered (numberOf rows) kept
+  refuse-given [] h = absurd (h refl)
+  refuse-given (r ∷ rs) h = by (r .applies) h (refuse-given rs)
     where
-      by : (t : Bool) → pick t (record { number = r .number; left = kept }) (answer rs done kept) .number ≡ 0 → (answer rs done kept .number ≡ 0 → Clear rs)
-          → (t ≡ false) × Clear rs
+      by : (t : Bool) → (pick t (answered {A = ℕ} (r .number) 0) (answer rs 0 0) .number ≡ 0 → ⊥) → ((numberOf rs ≡ 0 → ⊥) → refuse rs kept follows ≡ answered (numberOf rs) kept)
+          → pick t (answered (r .number) kept) (refuse rs kept follows) ≡ answered (pick t (answered {A = ℕ} (r .number) 0) (answer rs 0 0) .number) kept
+      by true k rest = refl
+      by false k rest = rest k
+
+  -- where no row applies, it goes on
+  pub refuse-clear : (rows : List Row) → Clear rows → refuse rows kept follows ≡ follows
+  refuse-clear [] c = refl
+  refuse-clear (r ∷ rs) c = rw (c .0) (refuse-clear rs (c .1))
+
+  -- 0 comes where no row applies and what follows is done
+  pub refuse-done : (rows : List Row) → Numbered rows → refuse rows kept follows .number ≡ 0 → Clear rows × (follows .number ≡ 0)
+  refuse-done [] n e = (tt, e)
+  refuse-done (r ∷ rs) n e = by (r .applies) e (refuse-done rs (n .1))
+    where
+      by : (t : Bool) → pick t (answered (r .number) kept) (refuse rs kept follows) .number ≡ 0 → (refuse rs kept follows .number ≡ 0 → Clear rs × (follows .number ≡ 0))
+          → ((t ≡ false) × Clear rs) × (follows .number ≡ 0)
       by true q rest = absurd (n .0 q)
-      by false q rest = (refl, rest q)
+      by false q rest = ((refl, rest q .0), rest q .1)
+
+module _ {A : Type 0} (done kept : A) where
+  pub done-clear : (rows : List Row) → Numbered rows → answer rows done kept .number ≡ 0 → Clear rows
+  done-clear rows n e = refuse-done kept (answered 0 done) rows n e .0
 
   -- what is the same of the outputs and of the memory as it was is the same of what an answer leaves
   left-keeps : {B : Type 0} (f : A → B) (rows : List Row) → (Clear rows → f done ≡ f kept) → f (answer rows done kept .left) ≡ f kept
@@ -57,26 +80,6 @@ module _ {A : Type 0} (done kept : A) where
           → Undone back (record { applies = t; number = r .number } ∷ rs)
       by true k rest = refl
       by false k rest = rest (λ c. k (refl, c))
-
--- the number that rows give by themselves
-abbrev pub numberOf : List Row → ℕ
-numberOf rows = answer {A = ℕ} rows 0 0 .number
-
-module _ {A : Type 0} (kept : A) (follows : Answer A) where
-  -- where it is not 0, it is answered
-  pub refuse-given : (rows : List Row) → (numberOf rows ≡ 0 → ⊥) → refuse rows kept follows ≡ answered (numberOf rows) kept
-  refuse-given [] h = absurd (h refl)
-  refuse-given (r ∷ rs) h = by (r .applies) h (refuse-given rs)
-    where
-      by : (t : Bool) → (pick t (answered {A = ℕ} (r .number) 0) (answer rs 0 0) .number ≡ 0 → ⊥) → ((numberOf rs ≡ 0 → ⊥) → refuse rs kept follows ≡ answered (numberOf rs) kept)
-          → pick t (answered (r .number) kept) (refuse rs kept follows) ≡ answered (pick t (answered {A = ℕ} (r .number) 0) (answer rs 0 0) .number) kept
-      by true k rest = refl
-      by false k rest = rest k
-
-  -- where no row applies, it goes on
-  pub refuse-clear : (rows : List Row) → Clear rows → refuse rows kept follows ≡ follows
-  refuse-clear [] c = refl
-  refuse-clear (r ∷ rs) c = rw (c .0) (refuse-clear rs (c .1))
 
 -- an entry point that works in place on memory x, and one that undoes it: where the outputs are judged as x was and are
 -- undone, the second call answers the same number and leaves x, whether x was refused or not
