@@ -3,6 +3,7 @@
 ghost use mathlib.Core.Path.{_≡_};
 ghost use Rattle.words.specs.Refuse.{answered};
 ghost use Rattle.gift.specs.Entry as gift;
+ghost use Rattle.hyena.specs.Entry as hyena;
 ghost use Rattle.chacha.specs.Entry as chacha;
 ghost use Rattle.blake.specs.Entry as blake;
 ghost use Rattle.lioness.specs.Entry as lioness;
@@ -19,6 +20,64 @@ pub extern "C" fn vespruldo_gift_decipher(key: &[u8], block: &mut [u8]) -> u32
     ensures { λ r. ⌜ answered r (now (block .exit)) ≡ gift.deciphering (now (key .entry)) (now (block .entry)) ⌝ }
 {
     gift::decipher(key, block)
+}
+
+#[no_mangle]
+pub extern "C" fn vespruldo_seal(
+    key: &[u8],
+    nonce: &[u8],
+    ad: &[u8],
+    text: &[u8],
+    room: &mut [u8],
+    tag: &mut [u8],
+) -> u32
+    ensures { λ r. ⌜ answered r (record { room = now (room .exit); tag = now (tag .exit) })
+        ≡ hyena.sealing (now (key .entry)) (now (nonce .entry)) (now (ad .entry)) (now (text .entry)) (now (room .entry)) (now (tag .entry)) ⌝ }
+{
+    hyena::seal(key, nonce, ad, text, room, tag)
+}
+
+#[no_mangle]
+pub extern "C" fn vespruldo_open(
+    key: &[u8],
+    nonce: &[u8],
+    ad: &[u8],
+    ciphertext: &[u8],
+    tag: &[u8],
+    room: &mut [u8],
+) -> u32
+    ensures { λ r. ⌜ answered r (now (room .exit))
+        ≡ hyena.opening (now (key .entry)) (now (nonce .entry)) (now (ad .entry)) (now (ciphertext .entry)) (now (tag .entry)) (now (room .entry)) ⌝ }
+{
+    hyena::open(key, nonce, ad, ciphertext, tag, room)
+}
+
+#[no_mangle]
+pub extern "C" fn vespruldo_seal_short(
+    key: &[u8],
+    nonce: &[u8],
+    text: &[u8],
+    room: &mut [u8],
+    tag: &mut [u8],
+) -> u32
+    ensures { λ r. ⌜ answered r (record { room = now (room .exit); tag = now (tag .exit) })
+        ≡ hyena.sealing (now (key .entry)) (now (nonce .entry)) hyena.shortData (now (text .entry)) (now (room .entry)) (now (tag .entry)) ⌝ }
+{
+    hyena::seal_short(key, nonce, text, room, tag)
+}
+
+#[no_mangle]
+pub extern "C" fn vespruldo_open_short(
+    key: &[u8],
+    nonce: &[u8],
+    ciphertext: &[u8],
+    tag: &[u8],
+    room: &mut [u8],
+) -> u32
+    ensures { λ r. ⌜ answered r (now (room .exit))
+        ≡ hyena.opening (now (key .entry)) (now (nonce .entry)) hyena.shortData (now (ciphertext .entry)) (now (tag .entry)) (now (room .entry)) ⌝ }
+{
+    hyena::open_short(key, nonce, ciphertext, tag, room)
 }
 
 #[no_mangle]

@@ -43,7 +43,8 @@ impl Bits {
 
     /// The string whose nibble at each place is `rule` of the nibble here.
     pub fn each_nibble(&self, rule: impl Fn(u8) -> u8) -> Bits {
-        Bits::by_rule(|i| (rule(self.nibble(i / 4)) >> (i % 4)) & 1 == 1)
+        let nibbles: [u8; 32] = std::array::from_fn(|n| rule(self.nibble(n)));
+        Bits::by_rule(|i| (nibbles[i / 4] >> (i % 4)) & 1 == 1)
     }
 }
 

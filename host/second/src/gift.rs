@@ -105,9 +105,9 @@ fn move_bits_back(state: &Bits) -> Bits {
     Bits::by_rule(|i| state.bit(moved(i)))
 }
 
-fn encipher_block(key: &[u8; 16], block: &[u8; 16]) -> [u8; 16] {
+fn encipher_block(rounds: &[Round], block: &[u8; 16]) -> [u8; 16] {
     let mut state = Bits::from_bytes(block);
-    for round in rounds(key) {
+    for round in rounds {
         state = state.each_nibble(|x| SBOX[usize::from(x)]);
         state = move_bits(&state);
         add_key(&mut state, &round.key);
@@ -118,9 +118,9 @@ fn encipher_block(key: &[u8; 16], block: &[u8; 16]) -> [u8; 16] {
 
 /// "Deciphering undoes the rounds": the last round first, and in each round
 /// the last step first. Adding by exclusive or undoes itself.
-fn decipher_block(key: &[u8; 16], block: &[u8; 16]) -> [u8; 16] {
+fn decipher_block(rounds: &[Round], block: &[u8; 16]) -> [u8; 16] {
     let mut state = Bits::from_bytes(block);
-    for round in rounds(key).iter().rev() {
+    for round in rounds.iter().rev() {
         add_constant(&mut state, &round.constant);
         add_key(&mut state, &round.key);
         state = move_bits_back(&state);
@@ -132,15 +132,22 @@ fn decipher_block(key: &[u8; 16], block: &[u8; 16]) -> [u8; 16] {
 /// Either way: judges the lengths, then works on the block where it lies.
 /// "Where several apply, the smallest number is given" (document 01, What
 /// comes back), so the key is judged first.
-fn on_block(key: &[u8], block: &mut [u8], work: fn(&[u8; 16], &[u8; 16]) -> [u8; 16]) -> u32 {
+fn on_block(key: &[u8], block: &mut [u8], work: fn(&[Round], &[u8; 16]) -> [u8; 16]) -> u32 {
     let Ok(key) = <&[u8; 16]>::try_from(key) else {
         return 1;
     };
     let Ok(block) = <&mut [u8; 16]>::try_from(block) else {
         return 4;
     };
-    *block = work(key, block);
+    *block = work(&rounds(key), block);
     0
+}
+
+/// Enciphering under `key` as a function of one block; the rounds are worked
+/// out once, however many blocks follow.
+pub fn under(key: &[u8; 16]) -> impl Fn(&[u8; 16]) -> [u8; 16] {
+    let rounds = rounds(key);
+    move |block| encipher_block(&rounds, block)
 }
 
 /// Enciphers `block` under `key` where it lies and answers the document's
@@ -221,6 +228,19 @@ mod tests {
             assert_eq!(block, cipher);
             assert_eq!(decipher(&key, &mut block), 0);
             assert_eq!(block, plain);
+        }
+    }
+
+    #[test]
+    fn one_key_serves_many_blocks() {
+        let mut random = Random::new(3);
+        let key = random.sixteen();
+        let work = under(&key);
+        for _ in 0..20 {
+            let block = random.sixteen();
+            let mut lent = block;
+            assert_eq!(encipher(&key, &mut lent), 0);
+            assert_eq!(work(&block), lent);
         }
     }
 

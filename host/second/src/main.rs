@@ -3,9 +3,9 @@
 use std::io::{self, Read, Write};
 use std::process::ExitCode;
 
-use second::cases;
+use second::{cases, edges};
 
-const USAGE: &str = "usage: second cases | second answers <CASES";
+const USAGE: &str = "usage: second cases | second answers <CASES | second edges";
 
 fn read_all() -> io::Result<Vec<u8>> {
     let mut input = Vec::new();
@@ -19,6 +19,7 @@ fn run(command: &str) -> io::Result<Option<String>> {
     Ok(match command {
         "cases" => Some(cases::cases()),
         "answers" => Some(cases::answers(&read_all()?)),
+        "edges" => Some(edges::edges()),
         _ => None,
     })
 }

@@ -31,13 +31,26 @@ fn cases_are_the_same_each_time_and_answered_line_by_line() {
 }
 
 #[test]
+fn edges_are_printed_one_card_on_each_line() {
+    let edges = second(&["edges"], b"");
+    assert!(edges.status.success());
+    let text = String::from_utf8(edges.stdout).expect("letters, digits and spaces");
+    assert_eq!(text.lines().count(), 278);
+    assert!(text.starts_with("16 12 0 0 5 16 128 0 a5a5a5a5a5 "));
+    assert!(text.ends_with("d4a5a5a5a5a5\n"));
+    assert!(!text.contains("  ") && !text.contains(" \n"));
+}
+
+#[test]
 fn anything_else_gives_a_usage_line_and_status_2() {
-    let wrong: [&[&str]; 6] = [
+    let wrong: [&[&str]; 8] = [
         &[],
         &[""],
         &["case"],
         &["cases", "more"],
         &["answers", "more"],
+        &["edges", "more"],
+        &["edge"],
         &["--cases"],
     ];
     for arguments in wrong {
