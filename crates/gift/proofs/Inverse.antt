@@ -1,9 +1,9 @@
 -- Enciphering and deciphering undo each other, whichever comes first.
 -- Assumes nothing.
-use mathlib.Core.Path.{_≡_, refl, ap, ap₂, _∙_}
+use mathlib.Core.Path.{_≡_, refl, ap, _∙_}
 use mathlib.Core.Bool.{Bool, true, false, not}
 use Prim.Native.Nat.{ℕ, zero, suc, _+_, _-_, _*_, _^_, _≤_, _<_}
-use native.Mathlib.Nat.{zero-lt-suc, mod-lt, le-step, le-refl, suc-sub-suc}
+use native.Mathlib.Nat.{zero-lt-suc, mod-lt, suc-sub-suc}
 use native.Mathlib.Omega.{arith}
 use lib.Bits.{bitXor, xor-lt}
 use lib.Dec.{lit<, lit≤}
@@ -12,6 +12,7 @@ use Rattle.words.specs.Turns.{turns}
 use Rattle.words.proofs.ExclusiveOr.{xor-undo}
 use Rattle.words.proofs.Sums.{scatter-lt}
 use Rattle.words.proofs.Tests.{pick-lt}
+use Rattle.words.proofs.Turns.{turns-same}
 use Rattle.gift.specs.Gift.{bit, subCells, permBits, spread, keyBits, constBits, keyU, keyV, keyAt, roundConst, added, round, rounds, forty, cipher, encipher, decipher}
 use Rattle.gift.proofs.Steps.{subCells-lt, subCells-undone, permBits-lt, permBits-undone}
 
@@ -54,9 +55,7 @@ round-undone true a x ha h =
 -- ---- all rounds
 
 rounds-same : (back : Bool) (a b : ℕ → ℕ) (n x : ℕ) → ((r : ℕ) → r < n → a r ≡ b r) → rounds back a n x ≡ rounds back b n x
-unfolding turns
-rounds-same back a b zero x h = refl
-rounds-same back a b (suc n) x h = ap₂ (round back) (h n (le-refl (suc n))) (rounds-same back a b n x (λ r l. h r (le-step l)))
+rounds-same back a b n x h = turns-same (λ r. round back (a r)) (λ r. round back (b r)) n x (λ r y l. ap (λ (z : ℕ). round back z y) (h r l))
 
 -- the first round by itself
 rounds-first : (back : Bool) (a : ℕ → ℕ) (n x : ℕ) → rounds back a (suc n) x ≡ rounds back (λ r. a (suc r)) n (round back (a 0) x)

@@ -3,15 +3,14 @@
 use mathlib.Core.Path.{_≡_, sym, ap, ap₂, subst, _∙_}
 use mathlib.Core.Bool.{Bool, true, false}
 use mathlib.Core.List.{List}
-use Prim.Native.Nat.{ℕ, zero, suc, _+_, _*_, _/_, _%_, _^_, _≤_, _<_}
+use Prim.Native.Nat.{ℕ, zero, suc, _+_, _*_, _/_, _%_, _^_, _<_}
 use native.Mathlib.Nat.{mod-lt}
-use native.Mathlib.Omega.{arith}
 use lib.Arith.{digits-lt}
 use lib.Bits.{bitXor, xor-lt}
 use lib.Dec.{eqb, lit<}
 use lib.ListN.{length}
 use lib.Pow.{pow-pos, shr-lt, high, low, split}
-use Rattle.words.specs.Bytes.{Bytes, number, bytes, filled, pad}
+use Rattle.words.specs.Bytes.{Bytes, number, bytes, pad}
 use Rattle.words.specs.Pick.{pick}
 use Rattle.words.specs.Turns.{turns}
 use Rattle.words.proofs.Bytes.{bytes-bytes, bytes-filled, length-filled, number-lt}

@@ -1,12 +1,10 @@
 -- A text cut into blocks, and walks over them.
 -- Assumes nothing.
-use mathlib.Core.Path.{_≡_, refl, sym, ap, ap₂, subst, _∙_}
-use mathlib.Core.Bool.{Bool}
+use mathlib.Core.Path.{_≡_, refl, sym, ap, ap₂, _∙_}
 use mathlib.Core.List.{List, _++_}
-use Prim.Native.Nat.{ℕ, zero, suc, _+_, _-_, _*_, _/_, _≤_, _<_}
+use Prim.Native.Nat.{ℕ, zero, suc, _+_, _-_, _*_, _≤_, _<_}
 use native.Mathlib.Nat.{le-refl, le-step, mul-suc}
 use native.Mathlib.Omega.{arith}
-use lib.Dec.{T, eqb, eqb→eq, eqb-refl}
 use lib.ListN.{length, take, drop, length-drop, length-append, take-append-drop}
 use lib.Seq.{take-all, take-add, drop-at}
 use Rattle.words.specs.Block.{part}
@@ -15,7 +13,7 @@ use Rattle.words.specs.Turns.{turns}
 use Rattle.words.proofs.Bytes.{bytes-take, bytes-drop}
 use Rattle.words.proofs.Lists.{length-part}
 use Rattle.words.proofs.Turns.{turns-same, turns-keep}
-use Rattle.hyena.specs.Hyena.{before, blockAt, last, full, walk}
+use Rattle.hyena.specs.Hyena.{before, blockAt, last, walk}
 
 pub block-length : (s : List ℕ) (i : ℕ) → i < before s → length (blockAt s i) ≡ 16
 block-length s i h = length-part s (16 * i) 16 (omega arith)

@@ -1,20 +1,19 @@
 -- The demands, stated of what the entry points answer, with the byte lists that a caller holds. The short forms are the same
 -- with their own associated data.
 -- Assumes nothing.
-use mathlib.Core.Path.{_≡_, refl, sym, ap, ap₂, _∙_}
-use mathlib.Core.Bool.{Bool, true, false, not}
+use mathlib.Core.Path.{_≡_, sym, ap, _∙_}
+use mathlib.Core.Bool.{true, false, not}
 use mathlib.Core.List.{List}
-use Prim.Native.Nat.{ℕ, _^_, _≤_, _<_}
+use Prim.Native.Nat.{ℕ, _≤_}
 use native.Mathlib.Omega.{arith}
-use borrow.Author.Tests.{eqb-true, eqb-false, not-false, eq-eqb, ne-eqb, le-ltb}
-use lib.Dec.{eqb}
+use borrow.Author.Tests.{eqb-true, not-false, eq-eqb, ne-eqb, le-ltb}
 use lib.ListN.{length, take, replicate}
 use Rattle.words.specs.Bytes.{Bytes, number, bytes, over}
-use Rattle.words.specs.Refuse.{Row, Answer, answered, refuse, answer}
+use Rattle.words.specs.Refuse.{Answer, answered, refuse, answer}
 use Rattle.words.proofs.Bytes.{length-bytes, bytes-bytes, number-bytes, number-inj}
 use Rattle.words.proofs.Over.{take-over}
 use Rattle.words.proofs.Refusals.{Clear, refuse-clear, refuse-done, done-clear}
-use Rattle.gift.specs.Gift.{encipher, decipher}
+use Rattle.gift.specs.Gift.{decipher}
 use Rattle.gift.proofs.Inverse.{cipher-lt, decipher-encipher}
 use Rattle.hyena.specs.Demands.{Inverted, Alike}
 use Rattle.hyena.specs.Hyena.{outputs, tag}

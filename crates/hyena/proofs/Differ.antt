@@ -3,7 +3,7 @@
 use mathlib.Core.Path.{_≡_, refl, sym, ap, ap₂, subst, _∙_}
 use mathlib.Core.Bool.{Bool, true}
 use mathlib.Core.List.{List, [], _∷_}
-use Prim.Native.Nat.{ℕ, zero, suc, _+_, _*_, _^_, _≤_, _<_}
+use Prim.Native.Nat.{ℕ, zero, suc, _^_, _≤_, _<_}
 use native.Mathlib.Nat.{suc-inj}
 use native.Mathlib.Omega.{arith}
 use borrow.Author.Tests.{eqb-true, eq-eqb, ne-eqb}
@@ -15,8 +15,8 @@ use Rattle.words.specs.Pick.{pick}
 use Rattle.words.proofs.Bytes.{bytes-take, bytes-drop, bytes-filled, length-filled, length-bytes, number-inj, number-lt, number-split}
 use Rattle.words.proofs.ExclusiveOr.{xor-cancel}
 use Rattle.hyena.specs.Demands.{Inverted, Alike}
-use Rattle.hyena.specs.Hyena.{State, upper, lower, joined, before, last, full, walk, doubles, output, feedback, feed, startBlock, dataFirst, afterData, textBlock, afterText, ended, tag, swapped}
-use Rattle.hyena.proofs.Bounds.{lower-lt, upper-lt, joined-inj, swapped-lt, swapped-inj, doubles-lt, output-bytes, Fits, begun-fits, textBlock-fits, textAt-fits}
+use Rattle.hyena.specs.Hyena.{State, upper, lower, joined, before, last, full, doubles, output, feedback, feed, startBlock, dataFirst, afterData, textBlock, afterText, ended, tag, swapped}
+use Rattle.hyena.proofs.Bounds.{lower-lt, joined-inj, swapped-lt, swapped-inj, doubles-lt, output-bytes, Fits, begun-fits, textBlock-fits, textAt-fits}
 use Rattle.hyena.proofs.Cuts.{last-le, last-bytes, joined-again, walk-alike}
 use Rattle.hyena.proofs.Trip.{textAt, text-some}
 

@@ -1,8 +1,8 @@
 -- What a call leaves, from what its steps ensure.
 -- Assumes nothing.
-use mathlib.Core.Path.{_≡_, refl, sym, ap, ap₂, fun-ext, subst, _∙_}
+use mathlib.Core.Path.{_≡_, sym, ap, ap₂, fun-ext, _∙_}
 use mathlib.Core.Bool.{Bool, true, false, not}
-use mathlib.Core.List.{List, []}
+use mathlib.Core.List.{List}
 use Prim.Native.Nat.{ℕ, _^_, _≤_, _<_}
 use native.Mathlib.Omega.{arith}
 use borrow.Author.Tests.{eqb-true, not-false, ltb-false}
@@ -11,7 +11,7 @@ use lib.ListN.{length, replicate, length-replicate}
 use Rattle.words.specs.declared.Block.{Block}
 use Rattle.words.specs.Block.{value, halves, loaded, stored}
 use Rattle.words.specs.Bytes.{number, bytes, over}
-use Rattle.words.specs.Refuse.{Answer, answered, refuse, answer}
+use Rattle.words.specs.Refuse.{Answer, answered, refuse}
 use Rattle.words.proofs.Blocks.{value-halves, value-is, value-lt, loaded-all, stored-all}
 use Rattle.words.proofs.Bytes.{number-bytes}
 use Rattle.words.proofs.Over.{over-over}
@@ -22,7 +22,7 @@ use Rattle.hyena.specs.declared.keyed.Keyed.{Keyed}
 use Rattle.hyena.specs.declared.Before.{Before}
 use Rattle.hyena.specs.declared.After.{After}
 use Rattle.hyena.specs.Hyena.{State, startBlock, dataFirst, afterData, afterText, swapped, ended, outputs, tag}
-use Rattle.hyena.specs.Entry.{gift, rows, refusals, Sealed, sealed, sealing, recomputed, wrongTag, opening}
+use Rattle.hyena.specs.Entry.{gift, refusals, Sealed, sealing, recomputed, opening}
 use Rattle.hyena.specs.Steps.{keyed, enciphers, refusal, heldBefore, heldAfter, fedOf, stateOf}
 use Rattle.hyena.proofs.Trip.{data-out, length-outputs}
 use Rattle.hyena.proofs.Steps.{fed-held, state-held}

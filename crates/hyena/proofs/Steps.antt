@@ -2,19 +2,18 @@
 -- Assumes nothing.
 use mathlib.Core.Path.{_≡_, refl, sym, ap, ap₂, subst, _∙_}
 use mathlib.Core.Bool.{Bool, true, false}
-use mathlib.Core.List.{List, [], _∷_, _++_}
+use mathlib.Core.List.{List, [], _∷_}
 use Prim.Native.Nat.{ℕ, zero, suc, _+_, _-_, _*_, _/_, _%_, _^_, _≤_, _<_}
-use native.Mathlib.Nat.{mod-eq-of-lt}
 use native.Mathlib.Omega.{arith}
 use lib.Bits.{bitXor, bitOr, xor-self}
 use lib.Dec.{eqb}
-use lib.ListN.{length, take, drop, set, replicate, length-drop, length-append, length-replicate, replicate-append-replicate}
+use lib.ListN.{length, take, drop, set, replicate, length-drop, length-replicate, replicate-append-replicate}
 use lib.Pow.{high, low as low-digits}
 use lib.Seq.{sets, take-all}
 use borrow.Author.Tests.{eq-eqb, ne-eqb, eqb-true, eqb-false}
 use Rattle.words.specs.declared.Block.{Block}
 use Rattle.words.specs.Block.{value, halves, part, loaded, loadedPad, stored}
-use Rattle.words.specs.Bytes.{Bytes, number, bytes, pad, plus, over}
+use Rattle.words.specs.Bytes.{Bytes, number, bytes, pad, over}
 use Rattle.words.specs.Pick.{pick}
 use Rattle.words.specs.Turns.{turns}
 use Rattle.words.proofs.Blocks.{value-halves, halves-value, value-is, loaded-back, stored-back}
@@ -28,7 +27,7 @@ use Rattle.words.proofs.WordLists.{loaded-word, word-lt}
 use Rattle.hyena.specs.declared.Before.{Before}
 use Rattle.hyena.specs.declared.After.{After}
 use Rattle.hyena.specs.declared.Turn.{Turn}
-use Rattle.hyena.specs.Hyena.{Fed, State, lower, double, doubles, empty, before, blockAt, last, full, walk, output, feedback, feed, startBlock, dataFirst, dataEach, dataLast, afterData, textBlock, afterText, swapped}
+use Rattle.hyena.specs.Hyena.{Fed, State, double, doubles, before, blockAt, last, full, walk, output, feedback, feed, startBlock, dataFirst, dataEach, dataLast, afterData, textBlock, afterText, swapped}
 use Rattle.hyena.specs.Steps.{low, heldBefore, heldAfter, fedOf, stateOf}
 use Rattle.hyena.proofs.Cuts.{block-length, last-length, last-part}
 use Rattle.hyena.proofs.Trip.{length-output, textAt, text-none, text-some, length-at}

@@ -1,7 +1,6 @@
 -- What the code's steps answer, whose blocks are held in halves.
 -- Assumes nothing.
 use Prim.Native.Nat.{ℕ}
-use mathlib.Core.Bool.{Bool}
 use mathlib.Core.List.{List, []}
 use lib.ListN.{take}
 use Rattle.words.specs.Block.{value, halves}

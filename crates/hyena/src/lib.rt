@@ -95,12 +95,15 @@ pub fn open(
     7
 }
 
+// The associated data of the short forms.
+const SHORT_DATA: [u8; 0] = [];
+
 // Seals with the short form's associated data.
 pub fn seal_short(key: &[u8], nonce: &[u8], text: &[u8], room: &mut [u8], tag: &mut [u8]) -> u32
     ensures { λ r. ⌜ answered r (record { room = now (room .exit); tag = now (tag .exit) })
         ≡ sealing (now (key .entry)) (now (nonce .entry)) shortData (now (text .entry)) (now (room .entry)) (now (tag .entry)) ⌝ }
 {
-    seal(key, nonce, b"", text, room, tag)
+    seal(key, nonce, &SHORT_DATA, text, room, tag)
 }
 
 // Opens with the short form's associated data.
@@ -108,7 +111,7 @@ pub fn open_short(key: &[u8], nonce: &[u8], ciphertext: &[u8], tag: &[u8], room:
     ensures { λ r. ⌜ answered r (now (room .exit))
         ≡ opening (now (key .entry)) (now (nonce .entry)) shortData (now (ciphertext .entry)) (now (tag .entry)) (now (room .entry)) ⌝ }
 {
-    open(key, nonce, b"", ciphertext, tag, room)
+    open(key, nonce, &SHORT_DATA, ciphertext, tag, room)
 }
 
 // The refusal that the lengths call for, or 0.

@@ -1,11 +1,11 @@
 -- Bytes written to the front of a room, of which the rest keeps its bytes.
 -- Assumes nothing.
 use mathlib.Core.Path.{_≡_, refl, sym, ap, ap₂, _∙_}
-use mathlib.Core.List.{List, [], _∷_, _++_}
+use mathlib.Core.List.{List, [], _++_}
 use Prim.Native.Nat.{ℕ, _+_, _≤_}
 use native.Mathlib.Omega.{arith}
 use lib.ListN.{length, take, drop, length-drop, length-append}
-use lib.Seq.{sets, sets-eq, take-append-seam, drop-append-seam, drop-append-add, drop-drop, drop-at}
+use lib.Seq.{sets, sets-eq, take-append-seam, drop-append-add, drop-drop, drop-at}
 use Rattle.words.specs.Bytes.{over}
 
 pub over-none : (room : List ℕ) → over [] room ≡ room

@@ -1,7 +1,3 @@
-use mathlib.Core.Path.{ap, ap₂, _∙_}
-use Rattle.words.specs.Block.{value, halves}
-use Rattle.hyena.specs.Hyena.{feed, dataLast}
-use Rattle.hyena.specs.Steps.{low, heldAfter}
 use Rattle.hyena.proofs.Steps.{data-last-is}
 use borrow.Author.Needs.{needs}
 use Rattle.hyena.proofs.data_last.Statement.{statement}

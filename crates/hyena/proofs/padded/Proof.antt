@@ -1,4 +1,3 @@
-use mathlib.Core.Path.{_≡_}
 use Rattle.words.specs.Block.{value}
 use Rattle.hyena.proofs.Steps.{padded-is}
 use borrow.Author.Needs.{needs}

@@ -2,7 +2,7 @@ use mathlib.Core.Path.{_≡_, refl, sym, ap, _∙_}
 use Prim.Native.Nat.{_-_, _≤_}
 use native.Mathlib.Omega.{arith}
 use denote.Ref.{now}
-use lib.ListN.{length, replicate, length-replicate, length-set}
+use lib.ListN.{length, replicate, length-set}
 use Rattle.words.specs.Bytes.{over}
 use Rattle.words.proofs.Over.{over-none}
 use Rattle.hyena.proofs.Steps.{wipe-turn}
