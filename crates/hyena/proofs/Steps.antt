@@ -5,7 +5,7 @@ use mathlib.Core.Bool.{Bool, true, false}
 use mathlib.Core.List.{List, [], _∷_}
 use Prim.Native.Nat.{ℕ, zero, suc, _+_, _-_, _*_, _/_, _%_, _^_, _≤_, _<_}
 use native.Mathlib.Omega.{arith}
-use lib.Bits.{bitXor, bitOr, xor-self}
+use lib.Bits.{bitXor, bitOr, xor-self, xor-lt, or-lt, or-mod}
 use lib.Dec.{eqb}
 use lib.ListN.{length, take, drop, set, replicate, length-drop, length-replicate, replicate-append-replicate}
 use lib.Pow.{high, low as low-digits}
@@ -230,30 +230,43 @@ started E n x ex ey em = rw (em, ey, ex)
 
 -- ---- the comparison, and the wiping
 
-module _ (a b : Block) (ha : a .lo < 2 ^ 64) (hb : b .lo < 2 ^ 64) where
-  -- no bit differs
+-- a number of 64 bits, its halves folded onto each other
+abbrev folded : ℕ → ℕ
+folded d = bitOr d (d / 2 ^ 32) % 2 ^ 32
+
+fold-zero : (d : ℕ) → d < 2 ^ 64 → folded d ≡ 0 → d ≡ 0
+fold-zero d h e =
+    let z = or-zero (d % 2 ^ 32) (d / 2 ^ 32 % 2 ^ 32) (sym (or-mod d (d / 2 ^ 32) 32) ∙ e) in
+    omega (arith, z .0, z .1)
+
+module _ (a b : Block) (fa : (a .lo < 2 ^ 64) × (a .hi < 2 ^ 64)) (fb : (b .lo < 2 ^ 64) × (b .hi < 2 ^ 64)) where
+  -- the bits that differ in either half
   differing : ℕ
   differing = bitOr (bitXor (a .lo) (b .lo)) (bitXor (a .hi) (b .hi))
 
-  equal : differing ≡ 0 → value a ≡ value b
+  differing-lt : differing < 2 ^ 64
+  unfolding differing
+  differing-lt = or-lt 64 _ _ (xor-lt 64 (a .lo) (b .lo) (fa .0) (fb .0)) (xor-lt 64 (a .hi) (b .hi) (fa .1) (fb .1))
+
+  equal : folded differing ≡ 0 → value a ≡ value b
   unfolding value differing
   equal e =
-      let z = or-zero (bitXor (a .lo) (b .lo)) (bitXor (a .hi) (b .hi)) e in
+      let z = or-zero (bitXor (a .lo) (b .lo)) (bitXor (a .hi) (b .hi)) (fold-zero differing differing-lt e) in
       ap₂ (λ (h l : ℕ). h * 2 ^ 64 + l) (xor-zero (a .hi) (b .hi) (z .1)) (xor-zero (a .lo) (b .lo) (z .0))
 
-  none-differs : value a ≡ value b → differing ≡ 0
+  none-differs : value a ≡ value b → folded differing ≡ 0
   unfolding differing
   none-differs e =
-      let q : a ≡ b = sym (halves-value a ha) ∙ ap halves e ∙ halves-value b hb in
-      ap₂ bitOr (ap (λ (x : Block). bitXor (x .lo) (b .lo)) q ∙ xor-self (b .lo)) (ap (λ (x : Block). bitXor (x .hi) (b .hi)) q ∙ xor-self (b .hi))
+      let q : a ≡ b = sym (halves-value a (fa .0)) ∙ ap halves e ∙ halves-value b (fb .0) in
+      ap folded (ap₂ bitOr (ap (λ (x : Block). bitXor (x .lo) (b .lo)) q ∙ xor-self (b .lo)) (ap (λ (x : Block). bitXor (x .hi) (b .hi)) q ∙ xor-self (b .hi)))
 
-  pub same-is : eqb (bitOr (bitXor (a .lo) (b .lo)) (bitXor (a .hi) (b .hi))) 0 ≡ eqb (value a) (value b)
+  pub same-is : eqb (folded (bitOr (bitXor (a .lo) (b .lo)) (bitXor (a .hi) (b .hi)))) 0 ≡ eqb (value a) (value b)
   unfolding differing
-  same-is = by (eqb differing 0) refl
+  same-is = by (eqb (folded differing) 0) refl
     where
-      by : (t : Bool) → eqb differing 0 ≡ t → eqb differing 0 ≡ eqb (value a) (value b)
-      by true e = e ∙ sym (eq-eqb (value a) (value b) (equal (eqb-true differing 0 e)))
-      by false e = e ∙ sym (ne-eqb (value a) (value b) (λ q. eqb-false differing 0 e (none-differs q)))
+      by : (t : Bool) → eqb (folded differing) 0 ≡ t → eqb (folded differing) 0 ≡ eqb (value a) (value b)
+      by true e = e ∙ sym (eq-eqb (value a) (value b) (equal (eqb-true (folded differing) 0 e)))
+      by false e = e ∙ sym (ne-eqb (value a) (value b) (λ q. eqb-false (folded differing) 0 e (none-differs q)))
 
 pub wipe-turn : (room₀ room : List ℕ) (i : ℕ) → i < length room₀ → room ≡ over (replicate i 0) room₀ → set room i 0 ≡ over (replicate (i + 1) 0) room₀
 wipe-turn room₀ room i h e =

@@ -348,11 +348,13 @@ fn double_of(x: u64) -> u64
     (x << 1) ^ ((x >> 63) * 0x1b)
 }
 
-// Looks at all of both.
+// Gathers what differs in all 16 bytes and folds it once more before the one test: without the fold the compiler
+// makes a test of each half, and a wrong first half would be told from a right one by the time.
 fn same(a: Block, b: Block) -> bool
     ensures { λ r. ⌜ r ≡ eqb (value a) (value b) ⌝ }
 {
-    ((a.lo ^ b.lo) | (a.hi ^ b.hi)) == 0
+    let d = (a.lo ^ b.lo) | (a.hi ^ b.hi);
+    (d | (d >> 32)) % 4294967296 == 0
 }
 
 // Zeros in the first n bytes of room.
