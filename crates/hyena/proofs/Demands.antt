@@ -16,8 +16,8 @@ use Rattle.words.proofs.Refusals.{Clear, refuse-clear, refuse-done, done-clear}
 use Rattle.gift.specs.Gift.{decipher}
 use Rattle.gift.proofs.Inverse.{cipher-lt, decipher-encipher}
 use Rattle.hyena.specs.Demands.{Inverted, Alike}
-use Rattle.hyena.specs.Hyena.{outputs, tag}
-use Rattle.hyena.specs.Entry.{gift, refusals, Sealed, sealed, sealing, recomputed, wrongTag, opening}
+use Rattle.hyena.specs.Hyena.{tag}
+use Rattle.hyena.specs.Entry.{gift, refusals, ciphertextOf, tagOf, Sealed, sealing, textOf, recomputed, wrongTag, opening}
 use Rattle.hyena.proofs.Trip.{length-outputs, round-trip}
 use Rattle.hyena.proofs.Bounds.{tag-lt}
 use Rattle.hyena.proofs.Differ.{same-tag}
@@ -30,7 +30,7 @@ inverted key = record { block = cipher-lt false (number key); undone = decipher-
 -- ---- opening what sealing gave
 
 sealing-done : (key nonce ad text tag room : List ℕ) → sealing key nonce ad text room tag .number ≡ 0
-    → Clear (refusals key nonce ad text tag room) × (sealing key nonce ad text room tag .left ≡ record { room = over (sealed key nonce ad text .room) room; tag = sealed key nonce ad text .tag })
+    → Clear (refusals key nonce ad text tag room) × (sealing key nonce ad text room tag .left ≡ record { room = over (ciphertextOf key nonce ad text) room; tag = tagOf key nonce ad text })
 unfolding sealing
 sealing-done key nonce ad text tag room e =
     let rs = refusals key nonce ad text tag room in
@@ -45,7 +45,7 @@ reclear key nonce ad text tag room k c t room′ lc lt fits =
 
 -- a call that is not refused goes on, to the tag
 opening-on : (key nonce ad text tag room : List ℕ) → Clear (refusals key nonce ad text tag room)
-    → opening key nonce ad text tag room ≡ refuse (wrongTag key nonce ad text tag) (over (replicate (length text) 0) room) (answered 0 (over (outputs (gift key) true nonce ad text) room))
+    → opening key nonce ad text tag room ≡ refuse (wrongTag key nonce ad text tag) (over (replicate (length text) 0) room) (answered 0 (over (textOf key nonce ad text) room))
 unfolding opening
 opening-on key nonce ad text tag room c = refuse-clear room _ (refusals key nonce ad text tag room) c
 
@@ -59,14 +59,14 @@ module _ (key nonce ad text tag room : List ℕ) (h : Bytes tag) where
   pub accepts : opening key nonce ad text tag room .number ≡ 0 → Clear (refusals key nonce ad text tag room) × (tag ≡ recomputed key nonce ad text)
   unfolding opening
   accepts e =
-      let f = refuse (wrongTag key nonce ad text tag) (over (replicate (length text) 0) room) (answered 0 (over (outputs (gift key) true nonce ad text) room)) in
+      let f = refuse (wrongTag key nonce ad text tag) (over (replicate (length text) 0) room) (answered 0 (over (textOf key nonce ad text) room)) in
       let p = refuse-done room f (refusals key nonce ad text tag room) (numbered key nonce ad text tag room) e in
       let q = refuse-done _ _ (wrongTag key nonce ad text tag) ((λ z. omega arith), tt) (p .1) in
       (p .0, same-number (p .0) (eqb-true _ _ (not-false _ (q .0 .0))))
 
   -- then the text comes out
   pub accepted : Clear (refusals key nonce ad text tag room) → tag ≡ recomputed key nonce ad text
-      → opening key nonce ad text tag room ≡ answered 0 (over (outputs (gift key) true nonce ad text) room)
+      → opening key nonce ad text tag room ≡ answered 0 (over (textOf key nonce ad text) room)
   accepted c e = opening-on key nonce ad text tag room c ∙ rw (eq-eqb (number tag) (number (recomputed key nonce ad text)) (ap number e))
 
   -- any other tag is refused with 7, and the bytes meant for the text are all zero
@@ -81,8 +81,8 @@ pub opening-sealing : (key nonce ad text room tag room′ : List ℕ) → length
     opening key nonce ad (take (length text) (s .room)) (s .tag) room′ ≡ answered 0 (over text room′)
 opening-sealing key nonce ad text room tag room′ fits e =
     let E = gift key in
-    let c = outputs E false nonce ad text in
-    let t = sealed key nonce ad text .tag in
+    let c = ciphertextOf key nonce ad text in
+    let t = tagOf key nonce ad text in
     let d = sealing-done key nonce ad text tag room e in
     let lc : length c ≡ length text = length-outputs E nonce ad false text in
     let lt : length t ≡ 16 = length-bytes 16 _ in

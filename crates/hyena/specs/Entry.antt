@@ -31,39 +31,45 @@ refusals key nonce ad text tag room = rows (length key) (length nonce) (length a
 
 -- ---- sealing
 
+-- the ciphertext and the tag of a text
+abbrev pub ciphertextOf : List ℕ → List ℕ → List ℕ → List ℕ → List ℕ
+ciphertextOf key nonce ad text = outputs (gift key) false nonce ad text
+
+abbrev pub tagOf : List ℕ → List ℕ → List ℕ → List ℕ → List ℕ
+tagOf key nonce ad text = bytes 16 (tag (gift key) false nonce ad text)
+
 -- the memory that sealing writes
 pub record Sealed : Type 0 where
   pub room : List ℕ
   pub tag : List ℕ
 
--- the ciphertext and the tag of a text
-abbrev pub sealed : List ℕ → List ℕ → List ℕ → List ℕ → Sealed
-sealed key nonce ad text =
-    record { room = outputs (gift key) false nonce ad text; tag = bytes 16 (tag (gift key) false nonce ad text) }
-
 -- the number that is answered, and what room and tag hold then
 unfoldable pub sealing : List ℕ → List ℕ → List ℕ → List ℕ → List ℕ → List ℕ → Answer Sealed
 sealing key nonce ad text room tag =
-    let s = sealed key nonce ad text in
-    answer (refusals key nonce ad text tag room) (record { room = over (s .room) room; tag = s .tag }) (record { room = room; tag = tag })
+    answer (refusals key nonce ad text tag room)
+    (record { room = over (ciphertextOf key nonce ad text) room; tag = tagOf key nonce ad text })
+    (record { room = room; tag = tag })
 
 -- ---- opening
 
--- the tag that opens a ciphertext
+-- the text of a ciphertext, and the tag that opens it
+abbrev pub textOf : List ℕ → List ℕ → List ℕ → List ℕ → List ℕ
+textOf key nonce ad ciphertext = outputs (gift key) true nonce ad ciphertext
+
 abbrev pub recomputed : List ℕ → List ℕ → List ℕ → List ℕ → List ℕ
-recomputed key nonce ad text = bytes 16 (tag (gift key) true nonce ad text)
+recomputed key nonce ad ciphertext = bytes 16 (tag (gift key) true nonce ad ciphertext)
 
 -- 7 "opening: tag is not the recomputed one"
 abbrev pub wrongTag : List ℕ → List ℕ → List ℕ → List ℕ → List ℕ → List Row
-wrongTag key nonce ad text tag = record { applies = not (eqb (number tag) (number (recomputed key nonce ad text))); number = 7 } ∷ []
+wrongTag key nonce ad ciphertext tag = record { applies = not (eqb (number tag) (number (recomputed key nonce ad ciphertext))); number = 7 } ∷ []
 
 -- the number that is answered, and what room holds then: with 7 "first bytes of the room, as many as the ciphertext has, are each
 -- 0; the rest unchanged"
 unfoldable pub opening : List ℕ → List ℕ → List ℕ → List ℕ → List ℕ → List ℕ → Answer (List ℕ)
-opening key nonce ad text tag room =
-    refuse (refusals key nonce ad text tag room) room
-    (refuse (wrongTag key nonce ad text tag) (over (replicate (length text) 0) room)
-    (answered 0 (over (outputs (gift key) true nonce ad text) room)))
+opening key nonce ad ciphertext tag room =
+    refuse (refusals key nonce ad ciphertext tag room) room
+    (refuse (wrongTag key nonce ad ciphertext tag) (over (replicate (length ciphertext) 0) room)
+    (answered 0 (over (textOf key nonce ad ciphertext) room)))
 
 -- ---- "A short form of sealing and opening takes no associated data and uses the empty one."
 
