@@ -12,6 +12,19 @@
 uint32_t vespruldo_gift_encipher(const uint8_t *key, size_t key_len,
                                  uint8_t *block, size_t block_len);
 
+uint32_t vespruldo_seal(const uint8_t *key, size_t key_len,
+                        const uint8_t *nonce, size_t nonce_len,
+                        const uint8_t *data, size_t data_len,
+                        const uint8_t *text, size_t text_len, uint8_t *room,
+                        size_t room_len, uint8_t *tag, size_t tag_len);
+
+uint32_t vespruldo_open(const uint8_t *key, size_t key_len,
+                        const uint8_t *nonce, size_t nonce_len,
+                        const uint8_t *data, size_t data_len,
+                        const uint8_t *ciphertext, size_t ciphertext_len,
+                        const uint8_t *tag, size_t tag_len, uint8_t *room,
+                        size_t room_len);
+
 uint32_t vespruldo_chacha20(const uint8_t *key, size_t key_len,
                             const uint8_t *nonce, size_t nonce_len,
                             uint32_t start, uint8_t *text, size_t text_len);

@@ -1,14 +1,8 @@
 /* GIFT-128 as one would write it in C without further thought: two halves of
-   64 bits, the S-box nibble by nibble, every bit moved singly, and the key
-   additions worked out anew in each call. Steps are those of document 01,
-   GIFT-128. */
+   64 bits, the S-box nibble by nibble, every bit moved singly. Steps are those
+   of document 01, GIFT-128. */
 
 #include "plain_gift.h"
-
-struct halves {
-    uint64_t low;
-    uint64_t high;
-};
 
 /* Step 1: the S-box. */
 static const uint8_t sbox[16] = {
@@ -111,23 +105,41 @@ static struct halves step_key(struct halves key)
     return next;
 }
 
-void plain_gift_encipher(const uint8_t key[16], uint8_t block[16])
+/* Steps 3 and 4 of all rounds. */
+void plain_gift_prepare(const uint8_t key[16], struct plain_gift_key *prepared)
 {
     struct halves k = {load(key), load(key + 8)};
-    struct halves state = {load(block), load(block + 8)};
     unsigned constant = 0;
-    for (int round = 0; round < 40; round++) {
+    for (int round = 0; round < PLAIN_GIFT_ROUNDS; round++) {
         unsigned low_bit = ((constant >> 5) ^ (constant >> 4) ^ 1) & 1;
         constant = (constant << 1 & 0x3f) | low_bit;
         uint32_t u = (uint32_t)k.high;
         uint32_t v = (uint32_t)k.low;
+        prepared->added[round].low = spread(u, v) ^ spread_constant(constant);
+        prepared->added[round].high =
+            spread(u >> 16, v >> 16) ^ (uint64_t)1 << 63;
+        k = step_key(k);
+    }
+}
+
+void plain_gift_encipher_under(const struct plain_gift_key *prepared,
+                               uint8_t block[16])
+{
+    struct halves state = {load(block), load(block + 8)};
+    for (int round = 0; round < PLAIN_GIFT_ROUNDS; round++) {
         state.low = substitute(state.low);
         state.high = substitute(state.high);
         state = move_bits(state);
-        state.low ^= spread(u, v) ^ spread_constant(constant);
-        state.high ^= spread(u >> 16, v >> 16) ^ (uint64_t)1 << 63;
-        k = step_key(k);
+        state.low ^= prepared->added[round].low;
+        state.high ^= prepared->added[round].high;
     }
     store(block, state.low);
     store(block + 8, state.high);
+}
+
+void plain_gift_encipher(const uint8_t key[16], uint8_t block[16])
+{
+    struct plain_gift_key prepared;
+    plain_gift_prepare(key, &prepared);
+    plain_gift_encipher_under(&prepared, block);
 }

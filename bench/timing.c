@@ -9,9 +9,9 @@
 #include <string.h>
 #include <time.h>
 
-/* Each of the repeats is made of so many turns of each version. The pace of a
-   machine drifts within a second, so one long turn apiece would let the drift
-   pass for a difference between versions. */
+/* Each of the repeats is made of so many turns of each version at most. The
+   pace of a machine drifts within a second, so one long turn apiece would let
+   the drift pass for a difference between versions. */
 #define REPEATS 5
 #define TURNS 10
 #define TURN_SECONDS 0.02
@@ -141,21 +141,26 @@ static int by_size(const void *a, const void *b)
 }
 
 /* One repeat. The versions take turns, so that a change of the machine's pace
-   meets all of them. */
+   meets all of them. Where a single call takes longer than all turns should,
+   there are fewer of them. */
 static void take_turns(const struct subject *subject, size_t len,
                        uint8_t *bytes, struct timing timings[MOST_VERSIONS],
                        int repeat)
 {
     double sums[MOST_VERSIONS] = {0};
-    for (int turn = 0; turn < TURNS; turn++) {
+    double longest = 0;
+    uint64_t turns = 0;
+    while (turns < TURNS && longest < 2 * TURNS * TURN_SECONDS) {
         for (size_t v = 0; v < subject->version_count; v++) {
             sums[v] += timed(subject->versions[v].run, bytes, len,
                              timings[v].calls_in_turn);
+            longest = sums[v] > longest ? sums[v] : longest;
         }
+        turns++;
     }
     for (size_t v = 0; v < subject->version_count; v++) {
         timings[v].seconds[repeat] =
-            sums[v] / (double)(TURNS * timings[v].calls_in_turn);
+            sums[v] / (double)(turns * timings[v].calls_in_turn);
     }
 }
 

@@ -4,6 +4,19 @@
 //! the number of document 01's table "What comes back". Here they take slices,
 //! and every number but 0 becomes a [`Refusal`].
 //!
+//! A card is sealed with what belongs to it, and opened with the same:
+//!
+//! ```
+//! let (key, nonce) = ([1; 16], [2; 12]);
+//! let (mut ciphertext, mut tag) = ([0; 5], [0; 16]);
+//! vespruldo::seal(&key, &nonce, b"class 7", b"hello", &mut ciphertext, &mut tag)?;
+//!
+//! let mut text = [0; 5];
+//! vespruldo::open(&key, &nonce, b"class 7", &ciphertext, &tag, &mut text)?;
+//! assert_eq!(text, *b"hello");
+//! # Ok::<(), vespruldo::Refusal>(())
+//! ```
+//!
 //! A block is enciphered and deciphered where it lies:
 //!
 //! ```
@@ -22,19 +35,22 @@
 //! ```
 
 // Why the calls into the archive are safe. Each of its functions reads and
-// writes only the buffers it is handed, each within its length, and wants the
-// one it writes to lie apart from the others. Every call hands over each
-// slice's own pointer and length, the slices are lent for the whole call, and
-// the written one is lent mutably, so no other overlaps it.
+// writes only the buffers it is handed, each within its length, and wants those
+// it writes to lie apart from all others. Every call hands over each slice's
+// own pointer and length, the slices are lent for the whole call, and each
+// written one (two in sealing: room and tag) is lent mutably, so no other
+// overlaps it.
 
 mod blake;
 mod chacha;
 mod gift;
+mod hyena;
 mod lioness;
 mod refusal;
 
 pub use blake::blake2b;
 pub use chacha::chacha20;
 pub use gift::{gift_decipher, gift_encipher};
+pub use hyena::{open, open_short, seal, seal_short};
 pub use lioness::{lioness_decipher, lioness_encipher};
 pub use refusal::Refusal;

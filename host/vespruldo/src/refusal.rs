@@ -11,10 +11,16 @@ pub enum Refusal {
     KeyLength = 1,
     /// Number 2: nonce or iv has a wrong length.
     NonceLength = 2,
+    /// Number 3: associated data too long.
+    DataLength = 3,
     /// Number 4: text or block length not allowed.
     TextLength = 4,
+    /// Number 5: tag, or room for it, not 16 bytes.
+    TagLength = 5,
     /// Number 6: room too short (digest: not 1 to 64).
     RoomLength = 6,
+    /// Number 7: opening: tag is not the recomputed one.
+    WrongTag = 7,
     /// Number 8: key stream: start counter plus blocks needed exceeds 2^32.
     StreamTooLong = 8,
 }
@@ -36,8 +42,11 @@ impl fmt::Display for Refusal {
         f.write_str(match self {
             Refusal::KeyLength => "key has a wrong length",
             Refusal::NonceLength => "nonce or iv has a wrong length",
+            Refusal::DataLength => "associated data too long",
             Refusal::TextLength => "text or block length not allowed",
+            Refusal::TagLength => "tag, or room for it, not 16 bytes",
             Refusal::RoomLength => "room too short (digest: not 1 to 64)",
+            Refusal::WrongTag => "opening: tag is not the recomputed one",
             Refusal::StreamTooLong => "key stream: start counter plus blocks needed exceeds 2^32",
         })
     }
@@ -66,14 +75,21 @@ pub(crate) fn outcome(number: u32, promised: &[Refusal]) -> Result<(), Refusal> 
 mod tests {
     use super::*;
 
-    const TABLE: [(u32, Refusal, &str); 5] = [
+    const TABLE: [(u32, Refusal, &str); 8] = [
         (1, Refusal::KeyLength, "key has a wrong length"),
         (2, Refusal::NonceLength, "nonce or iv has a wrong length"),
+        (3, Refusal::DataLength, "associated data too long"),
         (4, Refusal::TextLength, "text or block length not allowed"),
+        (5, Refusal::TagLength, "tag, or room for it, not 16 bytes"),
         (
             6,
             Refusal::RoomLength,
             "room too short (digest: not 1 to 64)",
+        ),
+        (
+            7,
+            Refusal::WrongTag,
+            "opening: tag is not the recomputed one",
         ),
         (
             8,

@@ -7,7 +7,7 @@ use second::blake;
 use second::cases::blake::{self_test, PUBLISHED, SELF_TEST};
 use second::random::Random;
 
-fn expected_number([key_len, text_len]: [usize; 2], room_len: usize) -> u32 {
+fn expected_number([key_len, text_len]: [usize; 2], [room_len]: [usize; 1]) -> u32 {
     if key_len > 64 {
         1
     } else if text_len > LONGEST_TEXT {
@@ -19,11 +19,11 @@ fn expected_number([key_len, text_len]: [usize; 2], room_len: usize) -> u32 {
     }
 }
 
-fn digest() -> Pair<2> {
+fn digest() -> Pair<2, 1> {
     Pair::new(
         "digest",
-        |[key, text], room| number(vespruldo::blake2b(key, text, room)),
-        |[key, text], room| blake::digest(key, text, room),
+        |[key, text], [room]| number(vespruldo::blake2b(key, text, room)),
+        |[key, text], [room]| blake::digest(key, text, room),
         expected_number,
     )
 }
@@ -39,7 +39,7 @@ fn all_lengths_agree_and_nothing_else_changes() {
     for key_len in [0, 1, 31, 32, 33, 43, 44, 45, 63, 64, 65, 66, 128, 129, 200] {
         for text_len in TEXT_LENGTHS {
             for room_len in [0, 1, 2, 7, 8, 9, 31, 32, 33, 63, 64, 65, 66, 127, 128, 129] {
-                digest().compare(&mut random, [key_len, text_len], room_len);
+                digest().compare(&mut random, [key_len, text_len], [room_len]);
             }
         }
     }
@@ -52,7 +52,7 @@ fn all_keys_and_rooms_agree_and_nothing_else_changes() {
     for key_len in 0..=66 {
         for room_len in 0..=66 {
             let text_len = up_to(&mut random, 300);
-            digest().compare(&mut random, [key_len, text_len], room_len);
+            digest().compare(&mut random, [key_len, text_len], [room_len]);
         }
     }
 }
@@ -63,7 +63,7 @@ fn compare_random_texts(seed: u64) {
         let key_len = up_to(&mut random, 64);
         let text_len = up_to(&mut random, 700);
         let room_len = 1 + up_to(&mut random, 63);
-        digest().compare(&mut random, [key_len, text_len], room_len);
+        digest().compare(&mut random, [key_len, text_len], [room_len]);
     }
 }
 
@@ -89,9 +89,9 @@ fn damaged_inputs_agree_and_change_the_result() {
         (1, 257, 16),
     ] {
         let [key, text, room] = [key_len, text_len, room_len].map(|len| random.bytes(len));
-        digest().damage_read([&key, &text], &room);
+        digest().damage_read([&key, &text], [&room]);
         // What the room held before is no input.
-        digest().damage_worked([&key, &text], &room, |undamaged, damaged| {
+        digest().damage_worked([&key, &text], [&room], |undamaged, damaged| {
             damaged == undamaged
         });
     }
@@ -105,11 +105,15 @@ fn lengths_are_part_of_what_is_hashed() {
     for (key_len, text_len) in [(0, 0), (1, 0), (44, 0), (44, 127), (63, 128), (0, 128)] {
         let [key, text] = [random.bytes(key_len), random.bytes(text_len)];
         let [longer_key, longer_text] = [&key, &text].map(|bytes| [&bytes[..], &[0]].concat());
-        let short = digest().done([&key, &text], &[0; 32]);
-        assert_ne!(digest().done([&longer_key, &text], &[0; 32]), short);
-        assert_ne!(digest().done([&key, &longer_text], &[0; 32]), short);
-        assert_ne!(digest().done([&key, &text], &[0; 33])[..32], short);
-        assert_ne!(digest().done([&key, &text], &[0; 64])[..32], short);
+        let digest_of = |key: &[u8], text: &[u8], len: usize| {
+            let [digest] = digest().done([key, text], [&vec![0; len]]);
+            digest
+        };
+        let short = digest_of(&key, &text, 32);
+        assert_ne!(digest_of(&longer_key, &text, 32), short);
+        assert_ne!(digest_of(&key, &longer_text, 32), short);
+        assert_ne!(digest_of(&key, &text, 33)[..32], short);
+        assert_ne!(digest_of(&key, &text, 64)[..32], short);
     }
 }
 
@@ -132,11 +136,13 @@ fn refusals_are_the_documents() {
         (0, LONGEST_TEXT + 1, 65, 4),
         (64, LONGEST_TEXT, 65, 6),
     ] {
-        digest().answer(number, &mut random, [key_len, text_len], room_len);
+        digest().answer(number, &mut random, [key_len, text_len], [room_len]);
     }
     // A slice of nothing lies nowhere.
     assert_eq!(number(vespruldo::blake2b(&[], &[], &mut [])), 6);
-    digest().done([&[], &[]], &[0; 64]);
+    let mut of_nothing = [0; 64];
+    assert_eq!(number(vespruldo::blake2b(&[], &[], &mut of_nothing)), 0);
+    assert_eq!(digest().done([&[], &[]], [&[0; 64]]), [of_nothing]);
 }
 
 #[test]
@@ -145,7 +151,7 @@ fn long_buffers_agree_and_nothing_else_changes() {
     for key_len in [0, 44, 64, 65] {
         for text_len in [LONGEST_TEXT - 1, LONGEST_TEXT, LONGEST_TEXT + 1] {
             for room_len in [0, 64, 65] {
-                digest().compare(&mut random, [key_len, text_len], room_len);
+                digest().compare(&mut random, [key_len, text_len], [room_len]);
             }
         }
     }
@@ -157,22 +163,22 @@ fn long_buffers_agree_and_nothing_else_changes() {
             ([44, 3], more + 64),
             ([more + 44, LONGEST_TEXT + 1], more + 64),
         ] {
-            digest().compare(&mut random, read_lens, room_len);
+            digest().compare(&mut random, read_lens, [room_len]);
         }
     }
-    digest().compare(&mut random, [44, (1 << 24) + 3], 64);
+    digest().compare(&mut random, [44, (1 << 24) + 3], [64]);
 }
 
 #[test]
 #[cfg(target_pointer_width = "64")]
 fn lengths_of_2_to_the_32_and_more_are_refused() {
-    digest().refuse_huge([44, 3], 64);
+    digest().refuse_huge([44, 3], [64]);
 }
 
 #[test]
 fn published_digests() {
     for published in PUBLISHED {
-        let digest = digest().done([&published.key(), published.text], &[0; 64]);
+        let [digest] = digest().done([&published.key(), published.text], [&[0; 64]]);
         assert_eq!(digest, published.result(), "{}", published.place);
     }
 }

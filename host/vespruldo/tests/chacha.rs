@@ -22,12 +22,12 @@ fn expected_number([key_len, nonce_len]: [usize; 2], start: u32, text_len: usize
 }
 
 /// The key stream from this counter on.
-fn stream_from(start: u32) -> Pair<2> {
+fn stream_from(start: u32) -> Pair<2, 1> {
     Pair::new(
         format!("start {start:#x}"),
-        move |[key, nonce], text| number(vespruldo::chacha20(key, nonce, start, text)),
-        move |[key, nonce], text| chacha::stream(key, nonce, start, text),
-        move |read_lens, text_len| expected_number(read_lens, start, text_len),
+        move |[key, nonce], [text]| number(vespruldo::chacha20(key, nonce, start, text)),
+        move |[key, nonce], [text]| chacha::stream(key, nonce, start, text),
+        move |read_lens, [text_len]| expected_number(read_lens, start, text_len),
     )
 }
 
@@ -65,14 +65,14 @@ fn all_lengths_agree_and_nothing_else_changes() {
         for key_len in [0, 1, 16, 31, 32, 33, 64] {
             for nonce_len in [0, 1, 8, 11, 12, 13, 24] {
                 for text_len in TEXT_LENGTHS {
-                    stream_from(start).compare(&mut random, [key_len, nonce_len], text_len);
+                    stream_from(start).compare(&mut random, [key_len, nonce_len], [text_len]);
                 }
             }
         }
     }
     // The one pair of lengths that is not refused, with every short text.
     for text_len in 0..=300 {
-        stream_from(random.next_u64() as u32).compare(&mut random, [32, 12], text_len);
+        stream_from(random.next_u64() as u32).compare(&mut random, [32, 12], [text_len]);
     }
 }
 
@@ -80,7 +80,7 @@ fn compare_random_texts(seed: u64) {
     let mut random = Random::new(seed);
     for _ in 0..30_000 {
         let text_len = up_to(&mut random, 700);
-        stream_from(random.next_u64() as u32).compare(&mut random, [32, 12], text_len);
+        stream_from(random.next_u64() as u32).compare(&mut random, [32, 12], [text_len]);
     }
 }
 
@@ -103,9 +103,9 @@ fn starts_at_the_counters_end_agree() {
     for _ in 0..6000 {
         let text_len = 1 + up_to(&mut random, 699);
         let last = last_start(text_len.div_ceil(64));
-        stream_from(last).compare(&mut random, [32, 12], text_len);
-        stream_from(last - 1).compare(&mut random, [32, 12], text_len);
-        stream_from(last.saturating_add(1)).compare(&mut random, [32, 12], text_len);
+        stream_from(last).compare(&mut random, [32, 12], [text_len]);
+        stream_from(last - 1).compare(&mut random, [32, 12], [text_len]);
+        stream_from(last.saturating_add(1)).compare(&mut random, [32, 12], [text_len]);
     }
 }
 
@@ -124,7 +124,7 @@ fn the_counters_end_is_the_documents() {
         (u32::MAX, LONGEST_TEXT + 1, 4),
         (0, LONGEST_TEXT + 1, 4),
     ] {
-        stream_from(start).answer(number, &mut random, [32, 12], text_len);
+        stream_from(start).answer(number, &mut random, [32, 12], [text_len]);
     }
     // No block is needed for the empty text. A slice of nothing lies nowhere.
     for start in STARTS {
@@ -140,7 +140,7 @@ fn long_buffers_agree_and_nothing_else_changes() {
     for start in starts {
         for text_len in [LONGEST_TEXT - 1, LONGEST_TEXT, LONGEST_TEXT + 1] {
             for read_lens in [[32, 12], [32, 11], [31, 12], [33, 13]] {
-                stream_from(start).compare(&mut random, read_lens, text_len);
+                stream_from(start).compare(&mut random, read_lens, [text_len]);
             }
         }
     }
@@ -151,16 +151,16 @@ fn long_buffers_agree_and_nothing_else_changes() {
             ([32, more + 12], 64),
             ([more + 32, more + 12], LONGEST_TEXT + 1),
         ] {
-            stream_from(0).compare(&mut random, read_lens, text_len);
+            stream_from(0).compare(&mut random, read_lens, [text_len]);
         }
     }
-    stream_from(0).compare(&mut random, [32, 12], (1 << 24) + 64);
+    stream_from(0).compare(&mut random, [32, 12], [(1 << 24) + 64]);
 }
 
 #[test]
 #[cfg(target_pointer_width = "64")]
 fn lengths_of_2_to_the_32_and_more_are_refused() {
-    stream_from(1).refuse_huge([32, 12], 64);
+    stream_from(1).refuse_huge([32, 12], [64]);
 }
 
 #[test]
@@ -170,9 +170,9 @@ fn damaged_inputs_agree_and_change_the_result() {
         let [key, nonce] = [random.bytes(32), random.bytes(12)];
         let text = random.bytes(text_len);
         let pair = stream_from(random.next_u64() as u32);
-        pair.damage_read([&key, &nonce], &text);
+        pair.damage_read([&key, &nonce], [&text]);
         // A stream: the damaged bit and no other differs in the result.
-        pair.damage_worked([&key, &nonce], &text, |undamaged, damaged| {
+        pair.damage_worked([&key, &nonce], [&text], |[undamaged], [damaged]| {
             let differing = undamaged
                 .iter()
                 .zip(damaged)
@@ -187,9 +187,9 @@ fn another_start_changes_the_result() {
     let mut random = Random::new(27);
     let [key, nonce, text] = [random.bytes(32), random.bytes(12), random.bytes(64)];
     let start = random.next_u64() as u32;
-    let undamaged = stream_from(start).done([&key, &nonce], &text);
+    let undamaged = stream_from(start).done([&key, &nonce], [&text]);
     for i in 0..32 {
-        let damaged = stream_from(start ^ 1 << i).done([&key, &nonce], &text);
+        let damaged = stream_from(start ^ 1 << i).done([&key, &nonce], [&text]);
         assert_ne!(damaged, undamaged, "bit {i}");
     }
 }
@@ -203,11 +203,11 @@ fn cut_after_whole_blocks_the_stream_is_the_same() {
         let text_len = up_to(&mut random, 700);
         let text = random.bytes(text_len);
         let start = random.next_u64() as u32 % last_start(11);
-        let whole = stream_from(start).done([&key, &nonce], &text);
+        let [whole] = stream_from(start).done([&key, &nonce], [&text]);
         for blocks in 0..=text_len / 64 {
             let (first, second) = text.split_at(64 * blocks);
-            let first = stream_from(start).done([&key, &nonce], first);
-            let second = stream_from(start + blocks as u32).done([&key, &nonce], second);
+            let [first] = stream_from(start).done([&key, &nonce], [first]);
+            let [second] = stream_from(start + blocks as u32).done([&key, &nonce], [second]);
             assert_eq!([first, second].concat(), whole, "{text_len}, {blocks}");
         }
     }
@@ -219,8 +219,8 @@ fn done_twice_the_text_comes_back() {
     for text_len in 0..=300 {
         let [key, nonce, text] = [random.bytes(32), random.bytes(12), random.bytes(text_len)];
         let pair = stream_from(random.next_u64() as u32 % last_start(5));
-        let once = pair.done([&key, &nonce], &text);
-        assert_eq!(pair.done([&key, &nonce], &once), text);
+        let [once] = pair.done([&key, &nonce], [&text]);
+        assert_eq!(pair.done([&key, &nonce], [&once]), [text]);
     }
 }
 
@@ -229,9 +229,9 @@ fn published_streams_both_ways() {
     for published in PUBLISHED {
         let [key, nonce, result] = [published.key(), published.nonce(), published.result()];
         let pair = stream_from(published.start);
-        let there = pair.done([&key, &nonce], published.text);
-        assert_eq!(there, result, "{}", published.place);
-        let back = pair.done([&key, &nonce], &result);
-        assert_eq!(back, published.text, "{}", published.place);
+        let there = pair.done([&key, &nonce], [published.text]);
+        assert_eq!(there, [&result[..]], "{}", published.place);
+        let back = pair.done([&key, &nonce], [&result]);
+        assert_eq!(back, [published.text], "{}", published.place);
     }
 }

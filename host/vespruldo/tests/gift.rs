@@ -8,7 +8,7 @@ use second::gift;
 use second::lines::{field, Order};
 use second::random::Random;
 
-fn expected_number([key_len]: [usize; 1], block_len: usize) -> u32 {
+fn expected_number([key_len]: [usize; 1], [block_len]: [usize; 1]) -> u32 {
     if key_len != 16 {
         1
     } else if block_len != 16 {
@@ -18,20 +18,20 @@ fn expected_number([key_len]: [usize; 1], block_len: usize) -> u32 {
     }
 }
 
-fn encipher() -> Pair<1> {
+fn encipher() -> Pair<1, 1> {
     Pair::new(
         "encipher",
-        |[key], block| number(vespruldo::gift_encipher(key, block)),
-        |[key], block| gift::encipher(key, block),
+        |[key], [block]| number(vespruldo::gift_encipher(key, block)),
+        |[key], [block]| gift::encipher(key, block),
         expected_number,
     )
 }
 
-fn decipher() -> Pair<1> {
+fn decipher() -> Pair<1, 1> {
     Pair::new(
         "decipher",
-        |[key], block| number(vespruldo::gift_decipher(key, block)),
-        |[key], block| gift::decipher(key, block),
+        |[key], [block]| number(vespruldo::gift_decipher(key, block)),
+        |[key], [block]| gift::decipher(key, block),
         expected_number,
     )
 }
@@ -43,13 +43,13 @@ fn all_lengths_agree_and_nothing_else_changes() {
         for key_len in 0..=40 {
             for block_len in 0..=40 {
                 for _ in 0..8 {
-                    pair.compare(&mut random, [key_len], block_len);
+                    pair.compare(&mut random, [key_len], [block_len]);
                 }
             }
         }
         // The one pair of lengths that is not refused, more often.
         for _ in 0..1000 {
-            pair.compare(&mut random, [16], 16);
+            pair.compare(&mut random, [16], [16]);
         }
     }
 }
@@ -58,10 +58,10 @@ fn all_lengths_agree_and_nothing_else_changes() {
 /// each undoes what the other did.
 fn compare_blocks(key: &[u8], block: &[u8]) {
     let [encipher, decipher] = [encipher(), decipher()];
-    let enciphered = encipher.done([key], block);
-    assert_eq!(decipher.done([key], &enciphered), block);
-    let deciphered = decipher.done([key], block);
-    assert_eq!(encipher.done([key], &deciphered), block);
+    let [enciphered] = encipher.done([key], [block]);
+    assert_eq!(decipher.done([key], [&enciphered]), [block]);
+    let [deciphered] = decipher.done([key], [block]);
+    assert_eq!(encipher.done([key], [&deciphered]), [block]);
 }
 
 fn compare_random_blocks(seed: u64) {
@@ -99,8 +99,8 @@ fn extreme_blocks_agree_and_each_undoes_the_other() {
 
 fn compare_damaged(key: &[u8], block: &[u8]) {
     for pair in [encipher(), decipher()] {
-        pair.damage_read([key], block);
-        pair.damage_worked([key], block, |undamaged, damaged| damaged != undamaged);
+        pair.damage_read([key], [block]);
+        pair.damage_worked([key], [block], |undamaged, damaged| damaged != undamaged);
     }
 }
 
@@ -133,7 +133,7 @@ fn long_buffers_are_refused_and_unchanged() {
         for long in LONG {
             for (key_len, block_len) in [(long, 16), (16, long), (long, long), (0, long), (long, 0)]
             {
-                pair.compare(&mut random, [key_len], block_len);
+                pair.compare(&mut random, [key_len], [block_len]);
             }
         }
     }
@@ -143,7 +143,7 @@ fn long_buffers_are_refused_and_unchanged() {
 #[cfg(target_pointer_width = "64")]
 fn lengths_of_2_to_the_32_plus_16_are_refused() {
     for pair in [encipher(), decipher()] {
-        pair.refuse_huge([16], 16);
+        pair.refuse_huge([16], [16]);
     }
 }
 
@@ -152,7 +152,7 @@ fn published_vectors_both_ways() {
     for (key, plain, cipher) in PUBLISHED {
         let [key, plain, cipher] = [key, plain, cipher]
             .map(|text| field(text.as_bytes(), Order::ByteZeroLast).expect("a field"));
-        assert_eq!(encipher().done([&key], &plain), cipher);
-        assert_eq!(decipher().done([&key], &cipher), plain);
+        assert_eq!(encipher().done([&key], [&plain]), [&cipher[..]]);
+        assert_eq!(decipher().done([&key], [&cipher]), [&plain[..]]);
     }
 }

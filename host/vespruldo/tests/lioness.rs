@@ -8,7 +8,7 @@ use second::random::Random;
 
 const LONGEST_BLOCK: usize = 1_048_608;
 
-fn expected_number([key_len, iv_len]: [usize; 2], block_len: usize) -> u32 {
+fn expected_number([key_len, iv_len]: [usize; 2], [block_len]: [usize; 1]) -> u32 {
     if key_len != 128 {
         1
     } else if iv_len != 48 {
@@ -20,20 +20,20 @@ fn expected_number([key_len, iv_len]: [usize; 2], block_len: usize) -> u32 {
     }
 }
 
-fn encipher() -> Pair<2> {
+fn encipher() -> Pair<2, 1> {
     Pair::new(
         "encipher",
-        |[key, iv], block| number(vespruldo::lioness_encipher(key, iv, block)),
-        |[key, iv], block| lioness::encipher(key, iv, block),
+        |[key, iv], [block]| number(vespruldo::lioness_encipher(key, iv, block)),
+        |[key, iv], [block]| lioness::encipher(key, iv, block),
         expected_number,
     )
 }
 
-fn decipher() -> Pair<2> {
+fn decipher() -> Pair<2, 1> {
     Pair::new(
         "decipher",
-        |[key, iv], block| number(vespruldo::lioness_decipher(key, iv, block)),
-        |[key, iv], block| lioness::decipher(key, iv, block),
+        |[key, iv], [block]| number(vespruldo::lioness_decipher(key, iv, block)),
+        |[key, iv], [block]| lioness::decipher(key, iv, block),
         expected_number,
     )
 }
@@ -51,13 +51,13 @@ fn all_lengths_agree_and_nothing_else_changes() {
         for key_len in [0, 1, 32, 127, 128, 129, 256] {
             for iv_len in [0, 1, 12, 47, 48, 49, 96] {
                 for block_len in BLOCK_LENGTHS {
-                    pair.compare(&mut random, [key_len, iv_len], block_len);
+                    pair.compare(&mut random, [key_len, iv_len], [block_len]);
                 }
             }
         }
         // The one pair of lengths that is not refused, with every short block.
         for block_len in 0..=300 {
-            pair.compare(&mut random, [128, 48], block_len);
+            pair.compare(&mut random, [128, 48], [block_len]);
         }
     }
 }
@@ -67,10 +67,10 @@ fn all_lengths_agree_and_nothing_else_changes() {
 fn compare_blocks(random: &mut Random, block_len: usize) {
     let [encipher, decipher] = [encipher(), decipher()];
     let [key, iv, block] = [128, 48, block_len].map(|len| random.bytes(len));
-    let enciphered = encipher.done([&key, &iv], &block);
-    assert!(decipher.done([&key, &iv], &enciphered) == block);
-    let deciphered = decipher.done([&key, &iv], &block);
-    assert!(encipher.done([&key, &iv], &deciphered) == block);
+    let [enciphered] = encipher.done([&key, &iv], [&block]);
+    assert!(decipher.done([&key, &iv], [&enciphered]) == [&block[..]]);
+    let [deciphered] = decipher.done([&key, &iv], [&block]);
+    assert!(encipher.done([&key, &iv], [&deciphered]) == [&block[..]]);
     assert!(enciphered != deciphered);
 }
 
@@ -109,8 +109,8 @@ fn damaged_inputs_agree_and_change_the_result() {
     for block_len in [48, 64, 96, 97, 161] {
         let [key, iv, block] = [128, 48, block_len].map(|len| random.bytes(len));
         for pair in [encipher(), decipher()] {
-            pair.damage_read([&key, &iv], &block);
-            pair.damage_worked([&key, &iv], &block, |undamaged, damaged| {
+            pair.damage_read([&key, &iv], [&block]);
+            pair.damage_worked([&key, &iv], [&block], |[undamaged], [damaged]| {
                 undamaged[..32] != damaged[..32] && undamaged[32..] != damaged[32..]
             });
         }
@@ -135,7 +135,7 @@ fn refusals_are_the_documents() {
             (128, 49, 32, 2),
             (128, 47, LONGEST_BLOCK + 1, 2),
         ] {
-            pair.answer(number, &mut random, [key_len, iv_len], block_len);
+            pair.answer(number, &mut random, [key_len, iv_len], [block_len]);
         }
     }
     // A slice of nothing lies nowhere.
@@ -150,7 +150,7 @@ fn long_buffers_agree_and_nothing_else_changes() {
     for pair in [encipher(), decipher()] {
         for block_len in [LONGEST_BLOCK, LONGEST_BLOCK + 1] {
             for read_lens in [[128, 48], [128, 49], [127, 48], [129, 47]] {
-                pair.compare(&mut random, read_lens, block_len);
+                pair.compare(&mut random, read_lens, [block_len]);
             }
         }
         // Lengths that are allowed to whoever keeps only their low bits.
@@ -160,10 +160,10 @@ fn long_buffers_agree_and_nothing_else_changes() {
                 ([128, more + 48], 97),
                 ([more + 128, more + 48], LONGEST_BLOCK + 1),
             ] {
-                pair.compare(&mut random, read_lens, block_len);
+                pair.compare(&mut random, read_lens, [block_len]);
             }
         }
-        pair.compare(&mut random, [128, 48], (1 << 24) + 97);
+        pair.compare(&mut random, [128, 48], [(1 << 24) + 97]);
     }
 }
 
@@ -171,6 +171,6 @@ fn long_buffers_agree_and_nothing_else_changes() {
 #[cfg(target_pointer_width = "64")]
 fn lengths_of_2_to_the_32_and_more_are_refused() {
     for pair in [encipher(), decipher()] {
-        pair.refuse_huge([128, 48], 97);
+        pair.refuse_huge([128, 48], [97]);
     }
 }

@@ -60,128 +60,173 @@ impl Guarded {
     }
 }
 
-type Work<const N: usize> = Box<dyn Fn([&[u8]; N], &mut [u8]) -> u32>;
+type Work<const R: usize, const W: usize> = Box<dyn Fn([&[u8]; R], [&mut [u8]; W]) -> u32>;
 
 /// A function of the archive beside the same function of the second
-/// implementation. It reads `N` buffers, works in one more and answers the
+/// implementation. It reads `R` buffers, works in `W` more and answers the
 /// document's number.
-pub struct Pair<const N: usize> {
+pub struct Pair<const R: usize, const W: usize> {
     name: String,
-    ours: Work<N>,
-    seconds: Work<N>,
+    ours: Work<R, W>,
+    seconds: Work<R, W>,
     /// The number that the document asks for, from the lengths alone.
-    expected: Box<dyn Fn([usize; N], usize) -> u32>,
+    expected: Box<dyn Fn([usize; R], [usize; W]) -> u32>,
+    /// From the lengths read: how many bytes at the front of the first buffer
+    /// worked in are 0 after a refusal with 7.
+    zeroed: fn([usize; R]) -> usize,
 }
 
-impl<const N: usize> Pair<N> {
+impl<const R: usize, const W: usize> Pair<R, W> {
     pub fn new(
         name: impl Into<String>,
-        ours: impl Fn([&[u8]; N], &mut [u8]) -> u32 + 'static,
-        seconds: impl Fn([&[u8]; N], &mut [u8]) -> u32 + 'static,
-        expected: impl Fn([usize; N], usize) -> u32 + 'static,
-    ) -> Pair<N> {
+        ours: impl Fn([&[u8]; R], [&mut [u8]; W]) -> u32 + 'static,
+        seconds: impl Fn([&[u8]; R], [&mut [u8]; W]) -> u32 + 'static,
+        expected: impl Fn([usize; R], [usize; W]) -> u32 + 'static,
+    ) -> Pair<R, W> {
         Pair {
             name: name.into(),
             ours: Box::new(ours),
             seconds: Box::new(seconds),
             expected: Box::new(expected),
+            zeroed: |_| 0,
         }
     }
 
-    /// What both make of the bytes `before`, which neither may refuse.
-    pub fn done(&self, read: [&[u8]; N], before: &[u8]) -> Vec<u8> {
-        let [mut ours, seconds] = [&self.ours, &self.seconds].map(|work| {
-            let mut worked = Guarded::around(before);
-            assert_eq!(work(read, worked.lent()), 0, "{}", self.name);
-            worked
-        });
+    /// The same with a refusal that leaves zeros.
+    pub fn zeroing(self, zeroed: fn([usize; R]) -> usize) -> Pair<R, W> {
+        Pair { zeroed, ..self }
+    }
+
+    /// Runs both on the same bytes and compares the number and all bytes,
+    /// guards too. A refusal must leave what the document says.
+    fn run(&self, mut read: [Guarded; R], before: [Guarded; W]) -> (u32, [Guarded; W]) {
+        let read_lens = read.each_ref().map(|buffer| buffer.len);
+        let lens = before.each_ref().map(|buffer| buffer.len);
+        let case = format!("{}, reads {read_lens:?}, works in {lens:?}", self.name);
+        let read_before = read.clone();
+        let mut ours = before.clone();
+        let mut seconds = before.clone();
+
+        let lent = read.each_mut().map(|buffer| &*buffer.lent());
+        let number = (self.seconds)(lent, seconds.each_mut().map(Guarded::lent));
+        if number != 0 {
+            let mut left = before;
+            if number == 7 {
+                left[0].lent()[..(self.zeroed)(read_lens)].fill(0);
+            }
+            assert!(seconds == left, "what a refusal leaves: {case}");
+        }
+        let our_number = (self.ours)(lent, ours.each_mut().map(Guarded::lent));
+        assert_eq!(our_number, number, "{case}");
         // Not `assert_eq`, which would print buffers of many megabytes.
-        assert!(
-            ours == seconds,
-            "{}, reads {:?}, works in {}",
-            self.name,
-            read.map(<[u8]>::len),
-            before.len()
-        );
-        ours.lent().to_vec()
+        assert!(ours == seconds, "worked in, or its guards: {case}");
+        assert!(read == read_before, "read, or its guards: {case}");
+        (number, ours)
+    }
+
+    /// What both make of the bytes `before`, which neither may refuse.
+    pub fn done(&self, read: [&[u8]; R], before: [&[u8]; W]) -> [Vec<u8>; W] {
+        let (number, mut after) = self.run(read.map(Guarded::around), before.map(Guarded::around));
+        assert_eq!(number, 0, "{}", self.name);
+        after.each_mut().map(|buffer| buffer.lent().to_vec())
+    }
+
+    /// Both must refuse with this number.
+    pub fn refused(&self, number: u32, read: [&[u8]; R], before: [&[u8]; W]) {
+        let (refusal, _) = self.run(read.map(Guarded::around), before.map(Guarded::around));
+        assert_eq!(refusal, number, "{}", self.name);
     }
 
     /// Runs both on random-looking buffers with guards and compares the number
     /// and all bytes.
-    pub fn compare(&self, random: &mut Random, read_lens: [usize; N], len: usize) {
-        let case = format!("{}, reads {read_lens:?}, works in {len}", self.name);
-        let mut read = read_lens.map(|len| Guarded::new(random, len));
-        let read_before = read.clone();
-        let mut worked = Guarded::new(random, len);
-        let mut by_second = worked.clone();
-
-        let lent = read.each_mut().map(|buffer| &*buffer.lent());
-        let number = (self.seconds)(lent, by_second.lent());
-        assert_eq!(number, (self.expected)(read_lens, len), "{case}");
-        if number != 0 {
-            assert!(by_second == worked, "a refusal changes nothing: {case}");
-        }
-        assert_eq!((self.ours)(lent, worked.lent()), number, "{case}");
-        assert!(worked == by_second, "worked in, or its guards: {case}");
-        assert!(read == read_before, "read, or its guards: {case}");
+    pub fn compare(&self, random: &mut Random, read_lens: [usize; R], lens: [usize; W]) {
+        let read = read_lens.map(|len| Guarded::new(random, len));
+        let before = lens.map(|len| Guarded::new(random, len));
+        let (number, _) = self.run(read, before);
+        let expected = (self.expected)(read_lens, lens);
+        assert_eq!(number, expected, "{} {read_lens:?} {lens:?}", self.name);
     }
 
     /// The same where the number is known beforehand.
-    pub fn answer(&self, number: u32, random: &mut Random, read_lens: [usize; N], len: usize) {
-        assert_eq!((self.expected)(read_lens, len), number, "{}", self.name);
-        self.compare(random, read_lens, len);
+    pub fn answer(
+        &self,
+        number: u32,
+        random: &mut Random,
+        read_lens: [usize; R],
+        lens: [usize; W],
+    ) {
+        assert_eq!((self.expected)(read_lens, lens), number, "{}", self.name);
+        self.compare(random, read_lens, lens);
     }
 
-    /// Flips each bit of each buffer that is read, in turn: the result changes.
-    pub fn damage_read(&self, read: [&[u8]; N], before: &[u8]) {
+    /// Flips each bit of each buffer that is read, in turn: each result changes
+    /// that has any bytes.
+    pub fn damage_read(&self, read: [&[u8]; R], before: [&[u8]; W]) {
         let undamaged = self.done(read, before);
-        for n in 0..N {
+        for n in 0..R {
             for i in 0..8 * read[n].len() {
                 let flipped = with_flip(read[n], i);
                 let mut read = read;
                 read[n] = &flipped;
                 let damaged = self.done(read, before);
-                assert!(damaged != undamaged, "{}, bit {i} of {n}", self.name);
+                for (damaged, undamaged) in damaged.iter().zip(&undamaged) {
+                    let changed = damaged != undamaged || undamaged.is_empty();
+                    assert!(changed, "{}, bit {i} of {n}", self.name);
+                }
             }
         }
     }
 
-    /// Flips each bit of the buffer worked in, in turn, and hands the undamaged
-    /// and the damaged result to `check`.
+    /// Flips each bit of each buffer worked in, in turn, and hands the undamaged
+    /// and the damaged results to `check`.
     pub fn damage_worked(
         &self,
-        read: [&[u8]; N],
-        before: &[u8],
-        check: impl Fn(&[u8], &[u8]) -> bool,
+        read: [&[u8]; R],
+        before: [&[u8]; W],
+        check: impl Fn(&[Vec<u8>; W], &[Vec<u8>; W]) -> bool,
     ) {
         let undamaged = self.done(read, before);
-        for i in 0..8 * before.len() {
-            let damaged = self.done(read, &with_flip(before, i));
-            assert!(check(&undamaged, &damaged), "{}, bit {i}", self.name);
+        for n in 0..W {
+            for i in 0..8 * before[n].len() {
+                let flipped = with_flip(before[n], i);
+                let mut before = before;
+                before[n] = &flipped;
+                let damaged = self.done(read, before);
+                assert!(check(&undamaged, &damaged), "{}, {n}, bit {i}", self.name);
+            }
         }
     }
 
     /// Makes each buffer in turn longer by 2^32 than is allowed: a length must
-    /// be judged before it is cut to 32 bits. The memory is never written, so
-    /// the system need not provide it.
+    /// be judged before it is cut to 32 bits.
     #[cfg(target_pointer_width = "64")]
-    pub fn refuse_huge(&self, read_lens: [usize; N], len: usize) {
-        let huge_lens = read_lens.map(|len| (1 << 32) + len);
-        let longest = huge_lens.into_iter().fold((1 << 32) + len, usize::max);
-        let mut huge = vec![0; longest];
-        let small = [7; 256];
-        let read = read_lens.map(|len| &small[..len]);
-        for n in 0..N {
-            let mut read = read;
-            read[n] = &huge[..huge_lens[n]];
-            let mut worked = vec![7; len];
-            let number = (self.ours)(read, &mut worked);
-            assert_eq!(number, (self.expected)(read.map(<[u8]>::len), len));
-            assert_eq!(worked, vec![7; len], "{}, huge {n}", self.name);
+    pub fn refuse_huge(&self, read_lens: [usize; R], lens: [usize; W]) {
+        for n in 0..R + W {
+            self.refuse_one_huge(n, read_lens, lens);
         }
-        let huge = &mut huge[..(1 << 32) + len];
-        let number = (self.ours)(read, huge);
-        assert_eq!(number, (self.expected)(read_lens, huge.len()));
+    }
+
+    /// The same with buffer `n` alone, counted over those read and then those
+    /// worked in. The memory is never written, so the system need not provide
+    /// it.
+    #[cfg(target_pointer_width = "64")]
+    pub fn refuse_one_huge(&self, n: usize, read_lens: [usize; R], lens: [usize; W]) {
+        let len = *read_lens.iter().chain(&lens).nth(n).expect("a buffer");
+        let mut huge = vec![0; (1 << 32) + len];
+        let small = [7; 256];
+        let mut read = read_lens.map(|len| &small[..len]);
+        let mut worked = lens.map(|len| vec![7; len]);
+        let mut lent = worked.each_mut().map(|buffer| &mut buffer[..]);
+        if n < R {
+            read[n] = &huge;
+        } else {
+            lent[n - R] = &mut huge;
+        }
+        let lent_lens = lent.each_ref().map(|buffer| buffer.len());
+        let expected = (self.expected)(read.map(<[u8]>::len), lent_lens);
+        assert_ne!(expected, 0, "{}, huge {n}", self.name);
+        assert_eq!((self.ours)(read, lent), expected, "{}", self.name);
+        assert_eq!(worked, lens.map(|len| vec![7; len]), "{}", self.name);
         let ends = [&huge[..4096], &huge[huge.len() - 4096..]];
         assert!(ends.concat().iter().all(|&b| b == 0), "{}", self.name);
     }

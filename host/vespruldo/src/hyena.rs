@@ -1,0 +1,308 @@
+//! HyENA, sealing and opening.
+
+use crate::refusal::{outcome, Refusal};
+
+extern "C" {
+    fn vespruldo_seal(
+        key: *const u8,
+        key_len: usize,
+        nonce: *const u8,
+        nonce_len: usize,
+        data: *const u8,
+        data_len: usize,
+        text: *const u8,
+        text_len: usize,
+        room: *mut u8,
+        room_len: usize,
+        tag: *mut u8,
+        tag_len: usize,
+    ) -> u32;
+    fn vespruldo_open(
+        key: *const u8,
+        key_len: usize,
+        nonce: *const u8,
+        nonce_len: usize,
+        data: *const u8,
+        data_len: usize,
+        ciphertext: *const u8,
+        ciphertext_len: usize,
+        tag: *const u8,
+        tag_len: usize,
+        room: *mut u8,
+        room_len: usize,
+    ) -> u32;
+    fn vespruldo_seal_short(
+        key: *const u8,
+        key_len: usize,
+        nonce: *const u8,
+        nonce_len: usize,
+        text: *const u8,
+        text_len: usize,
+        room: *mut u8,
+        room_len: usize,
+        tag: *mut u8,
+        tag_len: usize,
+    ) -> u32;
+    fn vespruldo_open_short(
+        key: *const u8,
+        key_len: usize,
+        nonce: *const u8,
+        nonce_len: usize,
+        ciphertext: *const u8,
+        ciphertext_len: usize,
+        tag: *const u8,
+        tag_len: usize,
+        room: *mut u8,
+        room_len: usize,
+    ) -> u32;
+}
+
+/// What opening may refuse; sealing, all but the last.
+const PROMISED: [Refusal; 7] = [
+    Refusal::KeyLength,
+    Refusal::NonceLength,
+    Refusal::DataLength,
+    Refusal::TextLength,
+    Refusal::TagLength,
+    Refusal::RoomLength,
+    Refusal::WrongTag,
+];
+
+/// The same for the short forms.
+const PROMISED_SHORT: [Refusal; 6] = [
+    Refusal::KeyLength,
+    Refusal::NonceLength,
+    Refusal::TextLength,
+    Refusal::TagLength,
+    Refusal::RoomLength,
+    Refusal::WrongTag,
+];
+
+/// Seals `text`, at most 1,048,576 bytes, by HyENA under `key`, 16 bytes, and
+/// `nonce`, 12 bytes. The tag also covers the associated data `data`, at most
+/// 65,536 bytes, which itself is not sealed.
+///
+/// The ciphertext goes to the first bytes of `room`, as many as the text has;
+/// the rest of longer room keeps its bytes. The tag goes to `tag`, 16 bytes.
+/// Both are unchanged if this is refused. Two texts must never be sealed under
+/// the same key and nonce.
+///
+/// ```
+/// let (key, nonce) = ([1; 16], [2; 12]);
+/// let text = b"Anna, desk 4";
+/// let mut ciphertext = [0; 12];
+/// let mut tag = [0; 16];
+///
+/// vespruldo::seal(&key, &nonce, b"class 7", text, &mut ciphertext, &mut tag)?;
+/// assert_ne!(ciphertext, *text);
+///
+/// // Who opens it needs the same key, nonce and data.
+/// let mut opened = [0; 12];
+/// vespruldo::open(&key, &nonce, b"class 7", &ciphertext, &tag, &mut opened)?;
+/// assert_eq!(opened, *text);
+/// # Ok::<(), vespruldo::Refusal>(())
+/// ```
+///
+/// Room that is too short is not begun with:
+///
+/// ```
+/// use vespruldo::Refusal;
+///
+/// let (mut room, mut tag) = ([7; 11], [7; 16]);
+/// let refused = vespruldo::seal(&[1; 16], &[2; 12], b"", b"Anna, desk 4", &mut room, &mut tag);
+/// assert_eq!(refused, Err(Refusal::RoomLength));
+/// assert_eq!((room, tag), ([7; 11], [7; 16]));
+/// ```
+///
+/// # Errors
+///
+/// The first of these that applies: [`Refusal::KeyLength`] if the key is not 16
+/// bytes long, [`Refusal::NonceLength`] if the nonce is not 12 bytes long,
+/// [`Refusal::DataLength`] if the associated data is longer than 65,536 bytes,
+/// [`Refusal::TextLength`] if the text is longer than 1,048,576 bytes,
+/// [`Refusal::TagLength`] if the room for the tag is not 16 bytes long,
+/// [`Refusal::RoomLength`] if the room is shorter than the text.
+pub fn seal(
+    key: &[u8],
+    nonce: &[u8],
+    data: &[u8],
+    text: &[u8],
+    room: &mut [u8],
+    tag: &mut [u8],
+) -> Result<(), Refusal> {
+    // SAFETY: see the crate's root.
+    let number = unsafe {
+        vespruldo_seal(
+            key.as_ptr(),
+            key.len(),
+            nonce.as_ptr(),
+            nonce.len(),
+            data.as_ptr(),
+            data.len(),
+            text.as_ptr(),
+            text.len(),
+            room.as_mut_ptr(),
+            room.len(),
+            tag.as_mut_ptr(),
+            tag.len(),
+        )
+    };
+    outcome(number, &PROMISED[..6])
+}
+
+/// Opens what [`seal`] sealed: the text goes to the first bytes of `room`, as
+/// many as `ciphertext` has, if `tag` is the one that belongs to this key,
+/// nonce, associated data and ciphertext. The rest of longer room keeps its
+/// bytes.
+///
+/// If the tag is another one, this is refused and the same bytes of the room
+/// are each 0, so nothing of an unproven text can be read there. On every other
+/// refusal the room is unchanged.
+///
+/// ```
+/// use vespruldo::Refusal;
+///
+/// let (key, nonce) = ([1; 16], [2; 12]);
+/// let mut ciphertext = [0; 12];
+/// let mut tag = [0; 16];
+/// vespruldo::seal(&key, &nonce, b"class 7", b"Anna, desk 4", &mut ciphertext, &mut tag)?;
+///
+/// // The room may be longer than the text.
+/// let mut room = [7; 14];
+/// vespruldo::open(&key, &nonce, b"class 7", &ciphertext, &tag, &mut room)?;
+/// assert_eq!(room, *b"Anna, desk 4\x07\x07");
+///
+/// // One bit was changed on the way.
+/// ciphertext[11] ^= 1;
+/// let refused = vespruldo::open(&key, &nonce, b"class 7", &ciphertext, &tag, &mut room);
+/// assert_eq!(refused, Err(Refusal::WrongTag));
+/// assert_eq!(room, *b"\0\0\0\0\0\0\0\0\0\0\0\0\x07\x07");
+/// # Ok::<(), Refusal>(())
+/// ```
+///
+/// # Errors
+///
+/// The first of these that applies: [`Refusal::KeyLength`] if the key is not 16
+/// bytes long, [`Refusal::NonceLength`] if the nonce is not 12 bytes long,
+/// [`Refusal::DataLength`] if the associated data is longer than 65,536 bytes,
+/// [`Refusal::TextLength`] if the ciphertext is longer than 1,048,576 bytes,
+/// [`Refusal::TagLength`] if the tag is not 16 bytes long,
+/// [`Refusal::RoomLength`] if the room is shorter than the ciphertext,
+/// [`Refusal::WrongTag`] if the tag is not the recomputed one.
+pub fn open(
+    key: &[u8],
+    nonce: &[u8],
+    data: &[u8],
+    ciphertext: &[u8],
+    tag: &[u8],
+    room: &mut [u8],
+) -> Result<(), Refusal> {
+    // SAFETY: see the crate's root.
+    let number = unsafe {
+        vespruldo_open(
+            key.as_ptr(),
+            key.len(),
+            nonce.as_ptr(),
+            nonce.len(),
+            data.as_ptr(),
+            data.len(),
+            ciphertext.as_ptr(),
+            ciphertext.len(),
+            tag.as_ptr(),
+            tag.len(),
+            room.as_mut_ptr(),
+            room.len(),
+        )
+    };
+    outcome(number, &PROMISED)
+}
+
+/// [`seal`] without associated data: the same bytes as with the empty one.
+///
+/// ```
+/// let (key, nonce, text) = ([1; 16], [2; 12], b"Anna, desk 4");
+/// let (mut ciphertext, mut tag) = ([0; 12], [0; 16]);
+/// vespruldo::seal_short(&key, &nonce, text, &mut ciphertext, &mut tag)?;
+///
+/// let (mut same_ciphertext, mut same_tag) = ([0; 12], [0; 16]);
+/// vespruldo::seal(&key, &nonce, &[], text, &mut same_ciphertext, &mut same_tag)?;
+/// assert_eq!((ciphertext, tag), (same_ciphertext, same_tag));
+/// # Ok::<(), vespruldo::Refusal>(())
+/// ```
+///
+/// # Errors
+///
+/// As for [`seal`], but never [`Refusal::DataLength`].
+pub fn seal_short(
+    key: &[u8],
+    nonce: &[u8],
+    text: &[u8],
+    room: &mut [u8],
+    tag: &mut [u8],
+) -> Result<(), Refusal> {
+    // SAFETY: see the crate's root.
+    let number = unsafe {
+        vespruldo_seal_short(
+            key.as_ptr(),
+            key.len(),
+            nonce.as_ptr(),
+            nonce.len(),
+            text.as_ptr(),
+            text.len(),
+            room.as_mut_ptr(),
+            room.len(),
+            tag.as_mut_ptr(),
+            tag.len(),
+        )
+    };
+    outcome(number, &PROMISED_SHORT[..5])
+}
+
+/// [`open`] without associated data: opens what [`seal_short`] sealed, or
+/// [`seal`] with the empty data.
+///
+/// ```
+/// use vespruldo::Refusal;
+///
+/// let (key, nonce) = ([1; 16], [2; 12]);
+/// let (mut ciphertext, mut tag) = ([0; 12], [0; 16]);
+/// vespruldo::seal_short(&key, &nonce, b"Anna, desk 4", &mut ciphertext, &mut tag)?;
+///
+/// let mut room = [0; 12];
+/// vespruldo::open_short(&key, &nonce, &ciphertext, &tag, &mut room)?;
+/// assert_eq!(room, *b"Anna, desk 4");
+///
+/// tag[0] ^= 1;
+/// let refused = vespruldo::open_short(&key, &nonce, &ciphertext, &tag, &mut room);
+/// assert_eq!(refused, Err(Refusal::WrongTag));
+/// assert_eq!(room, [0; 12]);
+/// # Ok::<(), Refusal>(())
+/// ```
+///
+/// # Errors
+///
+/// As for [`open`], but never [`Refusal::DataLength`].
+pub fn open_short(
+    key: &[u8],
+    nonce: &[u8],
+    ciphertext: &[u8],
+    tag: &[u8],
+    room: &mut [u8],
+) -> Result<(), Refusal> {
+    // SAFETY: see the crate's root.
+    let number = unsafe {
+        vespruldo_open_short(
+            key.as_ptr(),
+            key.len(),
+            nonce.as_ptr(),
+            nonce.len(),
+            ciphertext.as_ptr(),
+            ciphertext.len(),
+            tag.as_ptr(),
+            tag.len(),
+            room.as_mut_ptr(),
+            room.len(),
+        )
+    };
+    outcome(number, &PROMISED_SHORT)
+}
