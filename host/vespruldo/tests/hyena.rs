@@ -473,41 +473,24 @@ fn all_lengths_agree_and_nothing_else_changes() {
 #[test]
 fn refusals_come_in_the_order_of_the_numbers() {
     let mut random = Random::new(71);
-    let too_short_or_long = [
+    let right_lens = [16, 12, 0, 33, 16];
+    let wrong_lens = [
         [15, 11, LONGEST_DATA + 1, LONGEST_TEXT + 1, 15],
         [17, 13, LONGEST_DATA + 16, LONGEST_TEXT + 16, 17],
     ];
-    for wrong in 0..1 << 6 {
-        let is_wrong = |number: u32| wrong >> (number - 1) & 1 == 1;
-        let first = (1..=6).find(|&number| is_wrong(number));
-        for wrong_lens in too_short_or_long {
-            let lens = [16, 12, 5, 33, 16];
+    for choice in 0..1 << 6 {
+        let is_wrong = |number: usize| choice >> (number - 1) & 1 == 1;
+        let smallest = (1..=6).find(|&number| is_wrong(number)).unwrap_or(0);
+        for wrong_lens in wrong_lens {
             let [key, nonce, data, text, tag] = std::array::from_fn(|n| {
-                let which = if is_wrong(n as u32 + 1) {
-                    wrong_lens
-                } else {
-                    lens
-                };
-                which[n]
+                let lens = [right_lens, wrong_lens][usize::from(is_wrong(n + 1))];
+                lens[n]
             });
-            for room in if is_wrong(6) {
-                [text - 1, 0]
-            } else {
-                [text, text + 1]
-            } {
-                let sealing = first.unwrap_or(0);
-                let opening = first.unwrap_or(7);
-                let read = [key, nonce, data, text];
-                seal().answer(sealing, &mut random, read, [room, tag]);
-                let read = [key, nonce, data, text, tag];
-                open().answer(opening, &mut random, read, [room]);
-                // The short forms have no data that could be too long.
-                if !is_wrong(3) {
-                    let read = [key, nonce, text];
-                    seal_short().answer(sealing, &mut random, read, [room, tag]);
-                    let read = [key, nonce, text, tag];
-                    open_short().answer(opening, &mut random, read, [room]);
-                }
+            let rooms = [[text, text + 1], [text - 1, 0]][usize::from(is_wrong(6))];
+            for room in rooms {
+                let lens = [key, nonce, data, text, tag, room];
+                assert_eq!(judged(lens) as usize, smallest, "{lens:?}");
+                compare(&mut random, lens);
             }
         }
     }
