@@ -15,9 +15,9 @@ use Rattle.words.specs.Pick.{pick}
 use Rattle.words.specs.Turns.{turns}
 use Rattle.words.proofs.Bytes.{bytes-bytes, bytes-filled, length-filled, number-lt}
 use Rattle.words.proofs.Plus.{bytes-plus}
-use Rattle.words.proofs.Tests.{pick-lt}
+use Rattle.words.proofs.Tests.{pick-has, pick-lt}
 use Rattle.hyena.specs.Demands.{Inverted}
-use Rattle.hyena.specs.Hyena.{Fed, State, upper, lower, joined, double, doubles, before, blockAt, last, full, empty, walk, output, feedback, feed, startBlock, dataFirst, dataEach, dataLast, afterData, textBlock, afterText, swapped, ended, tag}
+use Rattle.hyena.specs.Hyena.{Fed, State, upper, lower, joined, double, doubles, before, blockAt, last, full, empty, walk, output, feedback, feed, startBlock, dataFirst, dataEach, dataLast, afterData, textBlock, afterText, swapped, begun, ended, tag}
 use Rattle.hyena.proofs.Cuts.{last-bytes, walk-keeps}
 use Rattle.hyena.proofs.Trip.{textAt}
 
@@ -101,16 +101,14 @@ module _ {E D : ℕ → ℕ} (inv : Inverted E D) where
 
   afterData-fits : (f : Fed) (a : List ℕ) → FedFits f → Bytes a → Fits (afterData E f a)
   unfolding afterData walk
-  afterData-fits f a p h = by (empty a)
-    where
-      by : (b : Bool) → Fits (pick b (dataLast 2 f (bytes 16 1)) (dataLast (pick (full (last a)) 1 2) (turns (λ i u. dataEach E u (blockAt a i)) (before a) f) (last a)))
-      by true = dataLast-fits 2 f (bytes 16 1) p (bytes-bytes 16 1)
-      by false =
-          dataLast-fits (pick (full (last a)) 1 2) (turns (λ i u. dataEach E u (blockAt a i)) (before a) f) (last a)
-          (walk-keeps (dataEach E) FedFits dataEach-fits f a (before a) p h) (last-bytes a h)
+  afterData-fits f a p h =
+      pick-has Fits (empty a)
+      (dataLast-fits 2 f (bytes 16 1) p (bytes-bytes 16 1))
+      (dataLast-fits (pick (full (last a)) 1 2) (turns (λ i u. dataEach E u (blockAt a i)) (before a) f) (last a)
+      (walk-keeps (dataEach E) FedFits dataEach-fits f a (before a) p h) (last-bytes a h))
 
   -- after the associated data
-  pub begun-fits : (nonce a : List ℕ) (n : ℕ) → Bytes nonce → length nonce ≡ 12 → Bytes a → Fits (afterData E (dataFirst (E (startBlock nonce (length a) n))) a)
+  pub begun-fits : (nonce a : List ℕ) (n : ℕ) → Bytes nonce → length nonce ≡ 12 → Bytes a → Fits (begun E nonce a n)
   unfolding dataFirst
   begun-fits nonce a n hn ln ha =
       let y = E (startBlock nonce (length a) n) in
@@ -125,13 +123,11 @@ module _ {E D : ℕ → ℕ} (inv : Inverted E D) where
 
   afterText-fits : (opening : Bool) (t : State) (s : List ℕ) → Fits t → Bytes s → Fits (afterText E opening t s)
   unfolding afterText walk
-  afterText-fits opening t s p h = by (empty s)
-    where
-      by : (b : Bool) → Fits (pick b t (textBlock E opening (pick (full (last s)) 2 3) (textAt E opening s t (before s)) (last s)))
-      by true = p
-      by false = textBlock-fits opening (pick (full (last s)) 2 3) (textAt E opening s t (before s)) (last s) (textAt-fits opening t s (before s) p h) (last-bytes s h)
+  afterText-fits opening t s p h =
+      pick-has Fits (empty s) p
+      (textBlock-fits opening (pick (full (last s)) 2 3) (textAt E opening s t (before s)) (last s) (textAt-fits opening t s (before s) p h) (last-bytes s h))
 
   pub tag-lt : (opening : Bool) (nonce a d : List ℕ) → Bytes nonce → length nonce ≡ 12 → Bytes a → Bytes d → tag E opening nonce a d < 2 ^ 128
   unfolding tag ended
   tag-lt opening nonce a d hn ln ha hd =
-      inv .block _ (swapped-lt (afterText-fits opening (afterData E (dataFirst (E (startBlock nonce (length a) (length d)))) a) d (begun-fits nonce a (length d) hn ln ha) hd .0))
+      inv .block _ (swapped-lt (afterText-fits opening (begun E nonce a (length d)) d (begun-fits nonce a (length d) hn ln ha) hd .0))

@@ -9,7 +9,7 @@ use native.Mathlib.Omega.{arith}
 use borrow.Author.Tests.{eqb-true, not-false, eq-eqb, ne-eqb, le-ltb}
 use lib.ListN.{length, take, replicate}
 use Rattle.words.specs.Bytes.{Bytes, number, bytes, over}
-use Rattle.words.specs.Refuse.{Answer, answered, refuse, answer}
+use Rattle.words.specs.Refuse.{Answer, answered, answer}
 use Rattle.words.proofs.Bytes.{length-bytes, bytes-bytes, number-bytes, number-inj}
 use Rattle.words.proofs.Over.{take-over}
 use Rattle.words.proofs.Refusals.{Clear, refuse-clear, refuse-done, done-clear}
@@ -21,7 +21,7 @@ use Rattle.hyena.specs.Entry.{gift, refusals, ciphertextOf, tagOf, Seale
 use Rattle.hyena.proofs.Trip.{length-outputs, round-trip}
 use Rattle.hyena.proofs.Bounds.{tag-lt}
 use Rattle.hyena.proofs.Differ.{same-tag}
-use Rattle.hyena.proofs.Entry.{numbered, tag-length, nonce-length}
+use Rattle.hyena.proofs.Entry.{numbered, tag-length, nonce-length, opening-by}
 
 -- GIFT-128 is a block function with an inverse
 inverted : (key : List ℕ) → Inverted (gift key) (decipher (number key))
@@ -43,12 +43,6 @@ reclear : (key nonce ad text tag room : List ℕ) → Clear (refusals key nonce 
 reclear key nonce ad text tag room k c t room′ lc lt fits =
     (k .0, (k .1 .0, (k .1 .1 .0, (rw lc (k .1 .1 .1 .0), (ap not (eq-eqb (length t) 16 lt), (le-ltb (length room′) (length c) (omega arith), tt))))))
 
--- a call that is not refused goes on, to the tag
-opening-on : (key nonce ad text tag room : List ℕ) → Clear (refusals key nonce ad text tag room)
-    → opening key nonce ad text tag room ≡ refuse (wrongTag key nonce ad text tag) (over (replicate (length text) 0) room) (answered 0 (over (textOf key nonce ad text) room))
-unfolding opening
-opening-on key nonce ad text tag room c = refuse-clear room _ (refusals key nonce ad text tag room) c
-
 module _ (key nonce ad text tag room : List ℕ) (h : Bytes tag) where
   -- tags of 16 bytes are compared as numbers
   same-number : Clear (refusals key nonce ad text tag room) → number tag ≡ number (recomputed key nonce ad text) → tag ≡ recomputed key nonce ad text
@@ -59,21 +53,19 @@ module _ (key nonce ad text tag room : List ℕ) (h : Bytes tag) where
   pub accepts : opening key nonce ad text tag room .number ≡ 0 → Clear (refusals key nonce ad text tag room) × (tag ≡ recomputed key nonce ad text)
   unfolding opening
   accepts e =
-      let f = refuse (wrongTag key nonce ad text tag) (over (replicate (length text) 0) room) (answered 0 (over (textOf key nonce ad text) room)) in
-      let p = refuse-done room f (refusals key nonce ad text tag room) (numbered key nonce ad text tag room) e in
+      let p = refuse-done room _ (refusals key nonce ad text tag room) (numbered key nonce ad text tag room) e in
       let q = refuse-done _ _ (wrongTag key nonce ad text tag) ((λ z. omega arith), tt) (p .1) in
       (p .0, same-number (p .0) (eqb-true _ _ (not-false _ (q .0 .0))))
 
   -- then the text comes out
   pub accepted : Clear (refusals key nonce ad text tag room) → tag ≡ recomputed key nonce ad text
       → opening key nonce ad text tag room ≡ answered 0 (over (textOf key nonce ad text) room)
-  accepted c e = opening-on key nonce ad text tag room c ∙ rw (eq-eqb (number tag) (number (recomputed key nonce ad text)) (ap number e))
+  accepted c e = opening-by key nonce ad text tag room c true (eq-eqb (number tag) (number (recomputed key nonce ad text)) (ap number e))
 
   -- any other tag is refused with 7, and the bytes meant for the text are all zero
   pub rejected : Clear (refusals key nonce ad text tag room) → (tag ≡ recomputed key nonce ad text → ⊥)
       → opening key nonce ad text tag room ≡ answered 7 (over (replicate (length text) 0) room)
-  rejected c ne =
-      opening-on key nonce ad text tag room c ∙ rw (ne-eqb (number tag) (number (recomputed key nonce ad text)) (λ e. ne (same-number c e)))
+  rejected c ne = opening-by key nonce ad text tag room c false (ne-eqb (number tag) (number (recomputed key nonce ad text)) (λ e. ne (same-number c e)))
 
 -- what sealing wrote, as much of the room as the text has and the tag, is opened again: the text comes back
 pub opening-sealing : (key nonce ad text room tag room′ : List ℕ) → length text ≤ length room′ → sealing key nonce ad text room tag .number ≡ 0

@@ -15,7 +15,7 @@ use Rattle.words.specs.Pick.{pick}
 use Rattle.words.proofs.Bytes.{bytes-take, bytes-drop, bytes-filled, length-filled, length-bytes, number-inj, number-lt, number-split}
 use Rattle.words.proofs.ExclusiveOr.{xor-cancel}
 use Rattle.hyena.specs.Demands.{Inverted, Alike}
-use Rattle.hyena.specs.Hyena.{State, upper, lower, joined, before, last, full, doubles, output, feedback, feed, startBlock, dataFirst, afterData, textBlock, afterText, ended, tag, swapped}
+use Rattle.hyena.specs.Hyena.{State, upper, lower, joined, before, last, full, doubles, output, feedback, feed, startBlock, dataFirst, afterData, textBlock, afterText, begun, ended, tag, swapped}
 use Rattle.hyena.proofs.Bounds.{lower-lt, joined-inj, swapped-lt, swapped-inj, doubles-lt, output-bytes, Fits, begun-fits, textBlock-fits, textAt-fits}
 use Rattle.hyena.proofs.Cuts.{last-le, last-bytes, joined-again, walk-alike}
 use Rattle.hyena.proofs.Trip.{textAt, text-some}
@@ -143,5 +143,5 @@ module _ {E D : ℕ → ℕ} (inv : Inverted E D) where
       → tag E true nonce a c ≡ tag E true nonce a d → c ≡ d
   unfolding tag ended
   same-tag nonce a c d hn ln ha hc hd al e =
-      text-told (afterData E (dataFirst (E (startBlock nonce (length a) (length c)))) a) c d (begun-fits inv nonce a (length c) hn ln ha) hc hd al
+      text-told (begun E nonce a (length c)) c d (begun-fits inv nonce a (length c) hn ln ha) hc hd al
       (e ∙ ap (λ (x : ℕ). E (swapped (afterText E true (afterData E (dataFirst (E x)) a) d .X))) (start-alike nonce (length a) (length d) (length c) (al .some-d) (al .some-c)))

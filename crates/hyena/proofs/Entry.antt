@@ -11,6 +11,7 @@ use lib.ListN.{length, replicate, length-replicate}
 use Rattle.words.specs.declared.Block.{Block}
 use Rattle.words.specs.Block.{value, halves, loaded, stored}
 use Rattle.words.specs.Bytes.{number, bytes, over}
+use Rattle.words.specs.Pick.{pick}
 use Rattle.words.specs.Refuse.{Answer, answered, refuse}
 use Rattle.words.proofs.Blocks.{value-halves, value-is, value-lt, loaded-all, stored-all}
 use Rattle.words.proofs.Bytes.{number-bytes}
@@ -22,7 +23,7 @@ use Rattle.hyena.specs.declared.keyed.Keyed.{Keyed}
 use Rattle.hyena.specs.declared.Before.{Before}
 use Rattle.hyena.specs.declared.After.{After}
 use Rattle.hyena.specs.Hyena.{State, startBlock, dataFirst, afterData, afterText, swapped, ended, outputs, tag}
-use Rattle.hyena.specs.Entry.{gift, refusals, Sealed, sealing, recomputed, opening}
+use Rattle.hyena.specs.Entry.{gift, refusals, Sealed, sealing, textOf, recomputed, opening}
 use Rattle.hyena.specs.Steps.{keyed, enciphers, refusal, heldBefore, heldAfter, fedOf, stateOf}
 use Rattle.hyena.proofs.Trip.{data-out, length-outputs}
 use Rattle.hyena.proofs.Steps.{fed-held, state-held}
@@ -89,6 +90,13 @@ module _ (key nonce ad text tag room : List ℕ) (c : Clear (refusals key nonce 
 
 -- ---- the entry points
 
+-- a call that is not refused by its lengths goes by the tag
+pub opening-by : (key nonce ad text tag room : List ℕ) → Clear (refusals key nonce ad text tag room) → (t : Bool) → eqb (number tag) (number (recomputed key nonce ad text)) ≡ t
+    → opening key nonce ad text tag room ≡ pick t (answered 0 (over (textOf key nonce ad text) room)) (answered 7 (over (replicate (length text) 0) room))
+unfolding opening
+opening-by key nonce ad text tag room c true e = refuse-clear room _ (refusals key nonce ad text tag room) c ∙ rw e
+opening-by key nonce ad text tag room c false e = refuse-clear room _ (refusals key nonce ad text tag room) c ∙ rw e
+
 module _ (key nonce ad text : List ℕ) (tag₀ room : List ℕ) (c : Clear (refusals key nonce ad text tag₀ room)) where
   pub sealed-is : {t : Block} {room′ tag′ : List ℕ} → t ≡ halves (tag (gift key) false nonce ad text) → room′ ≡ over (outputs (gift key) false nonce ad text) room
       → tag′ ≡ stored tag₀ 0 16 (value t) → answered {A = Sealed} 0 (record { room = room′; tag = tag′ }) ≡ sealing key nonce ad text room tag₀
@@ -107,14 +115,11 @@ module _ (key nonce ad text : List ℕ) (tag₀ room : List ℕ) (c : Clear (ref
         (sym (ap (λ (x : ℕ). number (bytes 16 x)) (sym (value-is et)) ∙ number-bytes 16 (value t) (value-lt t lo hi)))
 
     pub opened-is : eqb (value l) (value t) ≡ true → answered 0 room₁ ≡ opening key nonce ad text tag₀ room
-    unfolding opening
-    opened-is e =
-        ap (answered 0) er ∙ sym (refuse-clear room _ (refusals key nonce ad text tag₀ room) c ∙ rw (sym compared ∙ e))
+    opened-is e = ap (answered 0) er ∙ sym (opening-by key nonce ad text tag₀ room c true (sym compared ∙ e))
 
     pub wrong-is : {room′ : List ℕ} → eqb (value l) (value t) ≡ false → room′ ≡ over (replicate (length text) 0) room₁ → answered 7 room′ ≡ opening key nonce ad text tag₀ room
-    unfolding opening
     wrong-is e ew =
         ap (answered 7) (ew ∙ ap (over (replicate (length text) 0)) er
         ∙ over-over (replicate (length text) 0) (outputs (gift key) true nonce ad text) room
         (length-replicate (length text) 0 ∙ sym (length-outputs (gift key) nonce ad true text)))
-        ∙ sym (refuse-clear room _ (refusals key nonce ad text tag₀ room) c ∙ rw (sym compared ∙ e))
+        ∙ sym (opening-by key nonce ad text tag₀ room c false (sym compared ∙ e))

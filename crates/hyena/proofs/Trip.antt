@@ -14,7 +14,8 @@ use Rattle.words.specs.Bytes.{bytes}
 use Rattle.words.specs.Pick.{pick}
 use Rattle.words.specs.Turns.{turns}
 use Rattle.words.proofs.Plus.{length-plus, plus-twice}
-use Rattle.hyena.specs.Hyena.{Fed, State, before, blockAt, last, full, empty, walk, output, feed, startBlock, dataFirst, dataEach, dataLast, afterData, textBlock, afterText, ended, outputs, tag, swapped}
+use Rattle.words.proofs.Tests.{pick-has}
+use Rattle.hyena.specs.Hyena.{Fed, State, before, blockAt, last, full, empty, walk, output, feed, startBlock, dataFirst, dataLast, afterData, textBlock, afterText, begun, ended, outputs, tag, swapped}
 use Rattle.hyena.proofs.Cuts.{block-length, last-length, before-append, last-append}
 
 pub length-output : (d : List ℕ) (y : ℕ) → length (output d y) ≡ length d
@@ -140,27 +141,22 @@ module _ (E : ℕ → ℕ) where
 
 pub data-out : (E : ℕ → ℕ) (f : Fed) (a : List ℕ) → afterData E f a .out ≡ []
 unfolding afterData walk dataLast
-data-out E f a = by (empty a)
-  where
-    by : (b : Bool) → pick b (dataLast 2 f (bytes 16 1)) (dataLast (pick (full (last a)) 1 2) (turns (λ i u. dataEach E u (blockAt a i)) (before a) f) (last a)) .out ≡ []
-    by true = refl
-    by false = refl
+data-out E f a = pick-has (λ (t : State). t .out ≡ []) (empty a) refl refl
 
 module _ (E : ℕ → ℕ) (nonce a : List ℕ) where
-  -- the state after the associated data, for a text of n bytes
-  abbrev begun : ℕ → State
-  begun n = afterData E (dataFirst (E (startBlock nonce (length a) n))) a
+  begun-out : (n : ℕ) → begun E nonce a n .out ≡ []
+  begun-out n = data-out E (dataFirst (E (startBlock nonce (length a) n))) a
 
   pub length-outputs : (opening : Bool) (d : List ℕ) → length (outputs E opening nonce a d) ≡ length d
   unfolding outputs ended
   length-outputs opening d =
-      length-text E opening (begun (length d)) (data-out E (dataFirst (E (startBlock nonce (length a) (length d)))) a) d
+      length-text E opening (begun E nonce a (length d)) (begun-out (length d)) d
 
   ended-trip : (m : List ℕ) → ended E true nonce a (outputs E false nonce a m) ≡ record { X = ended E false nonce a m .X; Δ = ended E false nonce a m .Δ; out = m }
   unfolding ended outputs opened
   ended-trip m =
-      ap (λ (n : ℕ). afterText E true (begun n) (outputs E false nonce a m)) (length-outputs false m)
-      ∙ text-trip E (begun (length m)) (data-out E (dataFirst (E (startBlock nonce (length a) (length m)))) a) m
+      ap (λ (n : ℕ). afterText E true (begun E nonce a n) (outputs E false nonce a m)) (length-outputs false m)
+      ∙ text-trip E (begun E nonce a (length m)) (begun-out (length m)) m
 
   -- opening what sealing gave returns the text, and the recomputed tag is the sealed one
   pub round-trip : (m : List ℕ) → (outputs E true nonce a (outputs E false nonce a m) ≡ m) × (tag E true nonce a (outputs E false nonce a m) ≡ tag E false nonce a m)

@@ -24,6 +24,10 @@ lower s = s % 2 ^ 64
 abbrev pub joined : ℕ → ℕ → ℕ
 joined l r = l * 2 ^ 64 + r
 
+-- "with its halves swapped"
+unfoldable pub swapped : ℕ → ℕ
+swapped x = joined (lower x) (upper x)
+
 -- "Doubling is in the field with x^64 + x^4 + x^3 + x + 1: shift left by one, and add 0x1B if the top bit was set."
 unfoldable pub double : ℕ → ℕ
 double x = bitXor (x * 2 % 2 ^ 64) (pick (eqb (x / 2 ^ 63) 1) 0x1B 0)
@@ -81,9 +85,6 @@ startBlock nonce a d =
 
 -- ---- the states
 
-unfoldable pub swapped : ℕ → ℕ
-swapped x = joined (lower x) (upper x)
-
 -- before a block of associated data
 pub record Fed : Type 0 where
   pub Y : ℕ
@@ -129,8 +130,12 @@ module _ (E : ℕ → ℕ) where
 
   -- ---- all of it
 
+  -- start and associated data, for a text of n bytes
+  abbrev pub begun : List ℕ → List ℕ → ℕ → State
+  begun nonce a n = afterData (dataFirst (E (startBlock nonce (length a) n))) a
+
   unfoldable pub ended : Bool → List ℕ → List ℕ → List ℕ → State
-  ended opening nonce a d = afterText opening (afterData (dataFirst (E (startBlock nonce (length a) (length d)))) a) d
+  ended opening nonce a d = afterText opening (begun nonce a (length d)) d
 
   -- the ciphertext, or the text
   unfoldable pub outputs : Bool → List ℕ → List ℕ → List ℕ → List ℕ

@@ -8,10 +8,14 @@ use native.Mathlib.Nat.{not-suc-le-zero, le-of-suc-le-suc, eq-or-lt-of-le}
 use lib.Dec.{T}
 use Rattle.words.specs.Pick.{pick}
 
--- a bound on both is one on either
+-- what both have, either has
+pub pick-has : {A : Type 0} (P : A → Type 0) (t : Bool) {a b : A} → P a → P b → P (pick t a b)
+pick-has P true ha hb = ha
+pick-has P false ha hb = hb
+
+-- as a bound
 pub pick-lt : (t : Bool) {a b n : ℕ} → a < n → b < n → pick t a b < n
-pick-lt true ha hb = ha
-pick-lt false ha hb = hb
+pick-lt t {n = n} ha hb = pick-has (λ (x : ℕ). x < n) t ha hb
 
 abbrev pub both : Bool → Bool → Bool
 both true b = b
