@@ -56,7 +56,7 @@ compress-is h b m v w r t last em ev ew er = rw (er, ew, ev, em)
 
 length-compress : (h b : List ℕ) (t : ℕ) (last : Bool) → length (compress h b t last) ≡ 8
 unfolding compress folded
-length-compress h b t last = length-tab _ 0 0 8
+length-compress h b t last = length-tab _ 0 8
 
 -- ---- the run over the data
 

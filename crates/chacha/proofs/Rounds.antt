@@ -38,7 +38,7 @@ sum-at s t i h = tab-at (λ j. sumMod 32 (getD s j 0) (getD t j 0)) 0 16 i h
 
 pub length-sums : (s t : List ℕ) → length (sums s t) ≡ 16
 unfolding sums
-length-sums s t = length-tab (λ j. sumMod 32 (getD s j 0) (getD t j 0)) 0 0 16
+length-sums s t = length-tab (λ j. sumMod 32 (getD s j 0) (getD t j 0)) 0 16
 
 length-written : (s t : List ℕ) → length (unwords 4 (sums s t)) ≡ 64
 length-written s t = length-unwords 4 (sums s t) ∙ ap (λ (n : ℕ). 4 * n) (length-sums s t)

@@ -35,8 +35,21 @@ module _ {A : Type 0} where
 
   -- ---- lists by a rule
 
+  module _ (f : ℕ → A) where
+    pub length-tab : (i n : ℕ) → length (tab f i n) ≡ n
+    unfolding tab
+    length-tab i zero = refl
+    length-tab i (suc n) = ap suc (length-tab (suc i) n)
+
+    -- the first of those that are left
+    pub tab-next : (i n : ℕ) → i < n → tab f i (n - i) ≡ f i ∷ tab f (i + 1) (n - (i + 1))
+    unfolding tab
+    tab-next i n h =
+        let e : n - i ≡ suc (n - (i + 1)) = omega arith in
+        rw (e, add-one)
+
   module _ (f : ℕ → A) (d : A) where
-    tab-from : (i n k : ℕ) → k < n → getD (tab f i n) k d ≡ f (i + k)
+    pub tab-from : (i n k : ℕ) → k < n → getD (tab f i n) k d ≡ f (i + k)
     unfolding tab
     tab-from i zero k h = absurd (not-suc-le-zero h)
     tab-from i (suc n) zero h = ap f (sym (add-zero i))
@@ -44,11 +57,6 @@ module _ {A : Type 0} where
 
     pub tab-at : (n k : ℕ) → k < n → getD (tab f 0 n) k d ≡ f k
     tab-at n k h = tab-from 0 n k h ∙ ap f (zero-add k)
-
-    pub length-tab : (i n : ℕ) → length (tab f i n) ≡ n
-    unfolding tab
-    length-tab i zero = refl
-    length-tab i (suc n) = ap suc (length-tab (suc i) n)
 
     -- one turn of a loop that fills a list from the front
     pub fill-turn : (l : List A) (r : ℕ) (a : A) → r < length l → ((j : ℕ) → j < r → getD l j d ≡ f j) → a ≡ f r
@@ -62,7 +70,7 @@ module _ {A : Type 0} where
     -- and its end
     pub fill-end : (l : List A) (n : ℕ) → length l ≡ n → ((j : ℕ) → j < n → getD l j d ≡ f j) → l ≡ tab f 0 n
     fill-end l n e h =
-        ext-getD d l (tab f 0 n) (e ∙ sym (length-tab 0 n))
+        ext-getD d l (tab f 0 n) (e ∙ sym (length-tab f 0 n))
         (λ j k. let m : j < n = omega arith in h j m ∙ sym (tab-at n j m))
 
   -- ---- runs of stores

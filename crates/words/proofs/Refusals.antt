@@ -59,6 +59,16 @@ module _ {A : Type 0} (done kept : A) where
   pub done-clear : (rows : List Row) → Numbered rows → answer rows done kept .number ≡ 0 → Clear rows
   done-clear rows n e = refuse-done kept (answered 0 done) rows n e .0
 
+  -- a refusal keeps the memory
+  pub answer-kept : (rows : List Row) → (answer rows done kept .number ≡ 0 → ⊥) → answer rows done kept .left ≡ kept
+  answer-kept [] h = absurd (h refl)
+  answer-kept (r ∷ rs) h = by (r .applies) h (answer-kept rs)
+    where
+      by : (t : Bool) → (pick t (answered (r .number) kept) (answer rs done kept) .number ≡ 0 → ⊥) → ((answer rs done kept .number ≡ 0 → ⊥) → answer rs done kept .left ≡ kept)
+          → pick t (answered (r .number) kept) (answer rs done kept) .left ≡ kept
+      by true k rest = refl
+      by false k rest = rest k
+
   -- what is the same of the outputs and of the memory as it was is the same of what an answer leaves
   left-keeps : {B : Type 0} (f : A → B) (rows : List Row) → (Clear rows → f done ≡ f kept) → f (answer rows done kept .left) ≡ f kept
   left-keeps f [] h = h tt

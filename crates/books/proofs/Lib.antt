@@ -1,0 +1,4 @@
+pub mod Loops
+pub mod Finding
+pub mod Handed
+pub mod Single

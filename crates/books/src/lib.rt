@@ -1,0 +1,124 @@
+// Key books: the key of a class, in this term's book or else in last term's.
+ghost use mathlib.Core.Path.{_≡_};
+ghost use Prim.Native.Nat.{_<_, _≤_};
+ghost use Rattle.words.specs.Block.{part};
+ghost use Rattle.words.specs.Bytes.{number};
+ghost use Rattle.words.specs.Refuse.{answered};
+ghost use Rattle.books.specs.Books.{count, class, wellFormed, entry};
+ghost use Rattle.books.specs.Entry.{finding, lent, handedBack};
+
+// Where a key lies: 0 or the refusal, the book (0 this term's, 1 last term's) and the place in it.
+#[repr(C)]
+pub struct Found {
+    pub number: u32,
+    pub book: u32,
+    pub at: usize,
+}
+
+// The refusal, or 0 where there is a key for the class.
+pub fn number(this: &[u8], last: &[u8], class: u16) -> u32
+    ensures { λ r. ⌜ r ≡ finding (now (this .entry)) (now (last .entry)) class .number ⌝ }
+{
+    let f = find(this, last, class);
+    f.number
+}
+
+// The key's 16 bytes where they lie in the book, or an empty part.
+pub fn part<'a>(this: &'a [u8], last: &'a [u8], class: u16) -> &'a [u8]
+    ensures { λ r. ⌜ lent r ≡ handedBack (lent (this .entry)) (lent (last .entry)) class ⌝ }
+{
+    let f = find(this, last, class);
+    let at = f.at;
+    if f.number != 0 {
+        return &this[..0];
+    }
+    if f.book == 0 {
+        return &this[at..at + 16];
+    }
+    &last[at..at + 16]
+}
+
+// Both books are judged before either is searched.
+pub fn find(this: &[u8], last: &[u8], class: u16) -> Found
+    ensures { λ r. ⌜ answered (r .number) (record { book = r .book; at = r .at }) ≡ finding (now (this .entry)) (now (last .entry)) class ⌝ }
+{
+    if !well_formed(this) {
+        return nowhere(10);
+    }
+    if !well_formed(last) {
+        return nowhere(10);
+    }
+    let i = entry_of(this, class);
+    if i < number_at(this, 0) {
+        return Found {
+            number: 0,
+            book: 0,
+            at: 2 + 18 * i + 2,
+        };
+    }
+    let j = entry_of(last, class);
+    if j < number_at(last, 0) {
+        return Found {
+            number: 0,
+            book: 1,
+            at: 2 + 18 * j + 2,
+        };
+    }
+    nowhere(11)
+}
+
+fn nowhere(number: u32) -> Found
+    ensures { λ r. ⌜ r ≡ record { number = number; book = 0; at = 0 } ⌝ }
+{
+    Found {
+        number: number,
+        book: 0,
+        at: 0,
+    }
+}
+
+fn well_formed(book: &[u8]) -> bool
+    ensures { λ r. ⌜ r ≡ wellFormed (now (book .entry)) ⌝ }
+{
+    let n = number_at(book, 0);
+    if book.len() != 2 + 18 * n {
+        return false;
+    }
+    let mut i: usize = 0;
+    while i + 1 < n {
+        if class_at(book, i) >= class_at(book, i + 1) {
+            return false;
+        }
+        i += 1;
+    }
+    true
+}
+
+// The first entry for the class, or the count where there is none.
+fn entry_of(book: &[u8], class: u16) -> usize
+    ensures { λ r. ⌜ (r ≡ entry class (now (book .entry))) × (r ≤ 65535) ⌝ }
+{
+    let n = number_at(book, 0);
+    let mut i: usize = 0;
+    while i < n {
+        if class_at(book, i) == class as usize {
+            return i;
+        }
+        i += 1;
+    }
+    i
+}
+
+fn class_at(book: &[u8], i: usize) -> usize
+    requires { ⌜ i ≤ 65535 ⌝ }
+    ensures { λ r. ⌜ r ≡ class (now (book .entry)) i ⌝ }
+{
+    number_at(book, 2 + 18 * i)
+}
+
+// The number of two bytes.
+fn number_at(book: &[u8], at: usize) -> usize
+    ensures { λ r. ⌜ (r ≡ number (part (now (book .entry)) at 2)) × (r ≤ 65535) ⌝ }
+{
+    words::load(book, at, 2).lo as usize
+}

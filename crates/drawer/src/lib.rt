@@ -1,0 +1,90 @@
+// The drawer of nonces: numbers that never repeat, for sealing and for wide blocks.
+use words::Block;
+ghost use mathlib.Core.Path.{_≡_};
+ghost use Rattle.words.specs.Refuse.{answered};
+ghost use Rattle.drawer.specs.Drawer.{started, nonce, drawing, ivDrawing};
+
+#[repr(C)]
+pub struct Drawer {
+    pub reader: u32,
+    pub count: u64,
+}
+
+// What a draw answers: 0 or the refusal, the bytes, and the drawer for the next draw.
+#[repr(C)]
+pub struct Drawn {
+    pub number: u32,
+    pub bytes: [u8; 12],
+    pub next: Drawer,
+}
+
+// The same of an iv.
+#[repr(C)]
+pub struct DrawnIv {
+    pub number: u32,
+    pub bytes: [u8; 48],
+    pub next: Drawer,
+}
+
+pub fn start(reader: u32, count: u64) -> Drawer
+    ensures { λ r. ⌜ r ≡ started reader count ⌝ }
+{
+    Drawer {
+        reader: reader,
+        count: count,
+    }
+}
+
+// One number. Whoever goes on drawing from d, and not from the next drawer, draws the same number again.
+pub fn draw(d: Drawer) -> Drawn
+    ensures { λ r. ⌜ answered (r .number) (record { bytes = r .bytes; next = r .next }) ≡ drawing d ⌝ }
+{
+    if d.count == 18446744073709551615 {
+        return Drawn {
+            number: 9,
+            bytes: [0u8; 12],
+            next: d,
+        };
+    }
+    Drawn {
+        number: 0,
+        bytes: nonce_of(d),
+        next: start(d.reader, d.count + 1),
+    }
+}
+
+// An iv: one draw, written four times.
+pub fn iv(d: Drawer) -> DrawnIv
+    ensures { λ r. ⌜ answered (r .number) (record { bytes = r .bytes; next = r .next }) ≡ ivDrawing d ⌝ }
+{
+    let one = draw(d);
+    let n = one.bytes;
+    let next = one.next;
+    let mut bytes = [0u8; 48];
+    words::add(&mut bytes, 0, &n, 0, 12);
+    words::add(&mut bytes, 12, &n, 0, 12);
+    words::add(&mut bytes, 24, &n, 0, 12);
+    words::add(&mut bytes, 36, &n, 0, 12);
+    DrawnIv {
+        number: one.number,
+        bytes: bytes,
+        next: next,
+    }
+}
+
+fn nonce_of(d: Drawer) -> [u8; 12]
+    ensures { λ r. ⌜ r ≡ nonce d ⌝ }
+{
+    let mut b = [0u8; 12];
+    words::store(
+        &mut b,
+        0,
+        4,
+        Block {
+            lo: d.reader as u64,
+            hi: 0,
+        },
+    );
+    words::store(&mut b, 4, 8, Block { lo: d.count, hi: 0 });
+    b
+}
