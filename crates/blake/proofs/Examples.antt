@@ -1,4 +1,4 @@
--- Card 12 of document 01 and RFC 7693's worked example, of the definitions.
+-- RFC 7693's worked example, of the definitions.
 -- Assumes nothing.
 use mathlib.Core.Path.{_≡_, refl}
 use mathlib.Core.List.{[], _∷_}
@@ -8,11 +8,6 @@ use Rattle.words.specs.Square.{onFour, square}
 use Rattle.words.specs.Turns.{turns}
 use Rattle.words.specs.Words.{words, unwords}
 use Rattle.blake.specs.Blake.{iv, sigmaTable, sigma, mixed, wordAt, mixing, round, vector, folded, compress, parameter, startChain, absorbed, keyed, hashed, digest}
-
--- "12. BLAKE2b's first parameter word for key 44, digest 64 is 0x01012C40."
-pub card-12 : parameter 44 64 ≡ 0x01012C40
-unfolding parameter
-card-12 = refl
 
 -- appendix A: the digest of "abc", 64 bytes, with no key
 pub abc : digest [] (0x61 ∷ 0x62 ∷ 0x63 ∷ []) 64

@@ -3,6 +3,5 @@ pub mod Fields
 pub mod Steps
 pub mod Inverse
 pub mod Keys
-pub mod Cards
 pub mod Entry
 pub mod Single

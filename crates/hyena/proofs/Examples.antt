@@ -1,4 +1,4 @@
--- The definitions computed: cards 9 to 11 of document 01's twelve, and sealing and opening over a toy block function. The
+-- The definitions computed: sealing and opening over a toy block function. The
 -- ciphertexts and tags come from the second implementation, which holds the same table; they refuse what no theorem over every
 -- block function can: a tag without the swap, b1 set whenever the text is empty, an extra padding block, all 16 bytes of Y
 -- added in a partial block.
@@ -8,17 +8,9 @@ use mathlib.Core.Bool.{Bool, true, false}
 use mathlib.Core.List.{List, [], _∷_}
 use Prim.Native.Nat.{ℕ, zero, suc, _+_, _*_, _%_, _^_}
 use lib.Bits.{bitXor}
-use lib.ListN.{replicate}
-use Rattle.words.specs.Bytes.{number, bytes, filled, pad, plus}
+use Rattle.words.specs.Bytes.{number, bytes, filled, plus}
 use Rattle.words.specs.Turns.{turns}
 use Rattle.hyena.specs.Hyena.{double, walk, output, feedback, feed, startBlock, dataFirst, dataEach, dataLast, afterData, textBlock, afterText, swapped, ended, outputs, tag}
-
--- cards 9 and 10, then 11
-pub cards : _≡_ {A = List ℕ}
-    (double 0x8000000000000000 ∷ double 0xC000000000000000 ∷ pad (0xAB ∷ []))
-    (0x1B ∷ 0x800000000000001B ∷ 0xAB ∷ 0x01 ∷ replicate 14 0)
-unfolding double filled
-cards = refl
 
 toy : ℕ → ℕ
 toy x = bitXor ((x * 0x9E3779B97F4A7C15F39CC0605CEDC835 + 0x1234567) % 2 ^ 128) 0xDEADBEEF

@@ -1,5 +1,9 @@
 // What C and Rust link. Each function is a thin call with the whole promise of what it calls; a slice crosses
-// as a pointer and a length.
+// as a pointer and a length, a struct by value.
+use books::Found;
+use drawer::Drawer;
+use drawer::Drawn;
+use drawer::DrawnIv;
 ghost use mathlib.Core.Path.{_≡_};
 ghost use Rattle.words.specs.Refuse.{answered};
 ghost use Rattle.gift.specs.Entry as gift;
@@ -7,6 +11,8 @@ ghost use Rattle.hyena.specs.Entry as hyena;
 ghost use Rattle.chacha.specs.Entry as chacha;
 ghost use Rattle.blake.specs.Entry as blake;
 ghost use Rattle.lioness.specs.Entry as lioness;
+ghost use Rattle.drawer.specs.Drawer as drawer;
+ghost use Rattle.books.specs.Entry as books;
 
 #[no_mangle]
 pub extern "C" fn vespruldo_gift_encipher(key: &[u8], block: &mut [u8]) -> u32
@@ -106,4 +112,32 @@ pub extern "C" fn vespruldo_lioness_decipher(key: &[u8], iv: &[u8], block: &mut 
     ensures { λ r. ⌜ answered r (now (block .exit)) ≡ lioness.deciphering (now (key .entry)) (now (iv .entry)) (now (block .entry)) ⌝ }
 {
     lioness::decipher(key, iv, block)
+}
+
+#[no_mangle]
+pub extern "C" fn vespruldo_drawer_start(reader: u32, count: u64) -> Drawer
+    ensures { λ r. ⌜ r ≡ drawer.started reader count ⌝ }
+{
+    drawer::start(reader, count)
+}
+
+#[no_mangle]
+pub extern "C" fn vespruldo_drawer_draw(d: Drawer) -> Drawn
+    ensures { λ r. ⌜ answered (r .number) (record { bytes = r .bytes; next = r .next }) ≡ drawer.drawing d ⌝ }
+{
+    drawer::draw(d)
+}
+
+#[no_mangle]
+pub extern "C" fn vespruldo_drawer_iv(d: Drawer) -> DrawnIv
+    ensures { λ r. ⌜ answered (r .number) (record { bytes = r .bytes; next = r .next }) ≡ drawer.ivDrawing d ⌝ }
+{
+    drawer::iv(d)
+}
+
+#[no_mangle]
+pub extern "C" fn vespruldo_key_find(this: &[u8], last: &[u8], class: u16) -> Found
+    ensures { λ r. ⌜ answered (r .number) (record { book = r .book; at = r .at }) ≡ books.finding (now (this .entry)) (now (last .entry)) class ⌝ }
+{
+    books::find(this, last, class)
 }

@@ -10,8 +10,10 @@
 
 pub mod bits;
 pub mod blake;
+pub mod books;
 pub mod cases;
 pub mod chacha;
+pub mod drawer;
 pub mod edges;
 pub mod gift;
 pub mod hyena;

@@ -31,13 +31,15 @@ fn cases_are_the_same_each_time_and_answered_line_by_line() {
 }
 
 #[test]
-fn edges_are_printed_one_card_on_each_line() {
+fn edges_are_printed_one_on_each_line() {
     let edges = second(&["edges"], b"");
     assert!(edges.status.success());
     let text = String::from_utf8(edges.stdout).expect("letters, digits and spaces");
-    assert_eq!(text.lines().count(), 278);
+    // HyENA, drawers and key books.
+    assert_eq!(text.lines().count(), 278 + 48 + 676);
     assert!(text.starts_with("16 12 0 0 5 16 128 0 a5a5a5a5a5 "));
-    assert!(text.ends_with("d4a5a5a5a5a5\n"));
+    assert!(text.contains("d4a5a5a5a5a5\ndraw 0 0 0 000000000000000000000000 0 1 "));
+    assert!(text.ends_with("\nkey 12 12 65535 10 - 0 0\n"));
     assert!(!text.contains("  ") && !text.contains(" \n"));
 }
 

@@ -1,8 +1,8 @@
 //! Safe functions over the archive `libvespruldo.a`.
 //!
 //! The archive's functions take buffers as a pointer and a length and answer
-//! the number of document 01's table "What comes back". Here they take slices,
-//! and every number but 0 becomes a [`Refusal`].
+//! the number of document 01's table "What comes back", some with more beside
+//! it. Here they take slices, and every number but 0 becomes a [`Refusal`].
 //!
 //! A card is sealed with what belongs to it, and opened with the same:
 //!
@@ -16,6 +16,9 @@
 //! assert_eq!(text, *b"hello");
 //! # Ok::<(), vespruldo::Refusal>(())
 //! ```
+//!
+//! Its nonce is best drawn from a [`Drawer`], its key looked up by
+//! [`find_key`].
 //!
 //! A block is enciphered and deciphered where it lies:
 //!
@@ -39,17 +42,23 @@
 // it writes to lie apart from all others. Every call hands over each slice's
 // own pointer and length, the slices are lent for the whole call, and each
 // written one (two in sealing: room and tag) is lent mutably, so no other
-// overlaps it.
+// overlaps it. Key books are only read and may overlap. Drawers, and answers
+// that are more than a number, go by value in the layout that C gives them;
+// they hold numbers and bytes alone, of which every value is allowed.
 
 mod blake;
+mod books;
 mod chacha;
+mod drawer;
 mod gift;
 mod hyena;
 mod lioness;
 mod refusal;
 
 pub use blake::blake2b;
+pub use books::find_key;
 pub use chacha::chacha20;
+pub use drawer::Drawer;
 pub use gift::{gift_decipher, gift_encipher};
 pub use hyena::{open, open_short, seal, seal_short};
 pub use lioness::{lioness_decipher, lioness_encipher};

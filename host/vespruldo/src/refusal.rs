@@ -23,6 +23,12 @@ pub enum Refusal {
     WrongTag = 7,
     /// Number 8: key stream: start counter plus blocks needed exceeds 2^32.
     StreamTooLong = 8,
+    /// Number 9: drawer spent.
+    DrawerSpent = 9,
+    /// Number 10: either key book badly formed.
+    BookForm = 10,
+    /// Number 11: neither book has an entry for the class.
+    ClassMissing = 11,
 }
 
 impl Refusal {
@@ -30,7 +36,7 @@ impl Refusal {
     ///
     /// ```
     /// assert_eq!(vespruldo::Refusal::KeyLength.number(), 1);
-    /// assert_eq!(vespruldo::Refusal::StreamTooLong.number(), 8);
+    /// assert_eq!(vespruldo::Refusal::ClassMissing.number(), 11);
     /// ```
     pub fn number(self) -> u32 {
         self as u32
@@ -48,6 +54,9 @@ impl fmt::Display for Refusal {
             Refusal::RoomLength => "room too short (digest: not 1 to 64)",
             Refusal::WrongTag => "opening: tag is not the recomputed one",
             Refusal::StreamTooLong => "key stream: start counter plus blocks needed exceeds 2^32",
+            Refusal::DrawerSpent => "drawer spent",
+            Refusal::BookForm => "either key book badly formed",
+            Refusal::ClassMissing => "neither book has an entry for the class",
         })
     }
 }
@@ -75,7 +84,7 @@ pub(crate) fn outcome(number: u32, promised: &[Refusal]) -> Result<(), Refusal> 
 mod tests {
     use super::*;
 
-    const TABLE: [(u32, Refusal, &str); 8] = [
+    const TABLE: [(u32, Refusal, &str); 11] = [
         (1, Refusal::KeyLength, "key has a wrong length"),
         (2, Refusal::NonceLength, "nonce or iv has a wrong length"),
         (3, Refusal::DataLength, "associated data too long"),
@@ -95,6 +104,13 @@ mod tests {
             8,
             Refusal::StreamTooLong,
             "key stream: start counter plus blocks needed exceeds 2^32",
+        ),
+        (9, Refusal::DrawerSpent, "drawer spent"),
+        (10, Refusal::BookForm, "either key book badly formed"),
+        (
+            11,
+            Refusal::ClassMissing,
+            "neither book has an entry for the class",
         ),
     ];
 

@@ -11,8 +11,8 @@ pub const LONGEST_TEXT: usize = 1_048_576;
 
 /// The document's number for an outcome. The safe functions take every number
 /// to an outcome of its own or panic, so nothing is lost.
-pub fn number(outcome: Result<(), Refusal>) -> u32 {
-    outcome.map_or_else(Refusal::number, |()| 0)
+pub fn number<T>(outcome: Result<T, Refusal>) -> u32 {
+    outcome.map_or_else(Refusal::number, |_| 0)
 }
 
 /// A random-looking number from 0 to `most`.
@@ -29,7 +29,7 @@ pub fn with_flip(bytes: &[u8], i: usize) -> Vec<u8> {
 
 /// A lent part inside a larger buffer, so that bytes written outside show.
 #[derive(Clone, PartialEq)]
-struct Guarded {
+pub struct Guarded {
     whole: Vec<u8>,
     start: usize,
     len: usize,
@@ -46,7 +46,7 @@ impl Guarded {
     }
 
     /// A lent part with these bytes.
-    fn around(bytes: &[u8]) -> Guarded {
+    pub fn around(bytes: &[u8]) -> Guarded {
         let guard = [0x5a; Guarded::GUARD];
         Guarded {
             whole: [&guard, bytes, &guard].concat(),
@@ -55,7 +55,7 @@ impl Guarded {
         }
     }
 
-    fn lent(&mut self) -> &mut [u8] {
+    pub fn lent(&mut self) -> &mut [u8] {
         &mut self.whole[self.start..self.start + self.len]
     }
 }

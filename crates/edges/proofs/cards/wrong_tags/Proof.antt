@@ -1,7 +1,7 @@
 use Prim.Native.Nat.{_-_, _≤_}
 use borrow.Author.Needs.{needs}
-use Rattle.edges.proofs.wrong_tags.Statement.{statement}
-use Rattle.edges.proofs.wrong_tags.Tie as tie
+use Rattle.edges.proofs.cards.wrong_tags.Statement.{statement}
+use Rattle.edges.proofs.cards.wrong_tags.Tie as tie
 
 abbrev Inv-loop : tie.InvT-loop
 Inv-loop key nonce ad text bit₀ bit = bit ≤ 128

@@ -1,7 +1,7 @@
 use Prim.Native.Nat.{_-_, _≤_}
 use borrow.Author.Needs.{needs}
-use Rattle.edges.proofs.all_lengths.Statement.{statement}
-use Rattle.edges.proofs.all_lengths.Tie as tie
+use Rattle.edges.proofs.cards.all_lengths.Statement.{statement}
+use Rattle.edges.proofs.cards.all_lengths.Tie as tie
 
 abbrev Inv-loop : tie.InvT-loop
 Inv-loop key nonce ad text i₀ i = i ≤ 7

@@ -1,6 +1,5 @@
 //! HyENA at the edges: lengths at the limits and beyond them, room longer than
-//! the text, and every bit of a tag. The cards are fixed, so that two programs
-//! can print the same lines without reading any.
+//! the text, and every bit of a tag.
 //!
 //! The line of a card is `KEY NONCE AD TEXT ROOM TAG BIT SEALNUMBER SEALROOM
 //! TAGBYTES OPENNUMBER OPENROOM`. Its first seven fields are numbers, six
@@ -8,6 +7,7 @@
 //! answered and left behind follows. The line of a short form is `short TEXT`
 //! and then the same last five fields.
 
+use super::filled;
 use crate::blake::digest;
 use crate::hyena::{open, open_short, seal, seal_short};
 use crate::lines::{print_field, Order};
@@ -56,14 +56,6 @@ impl Card {
             bit: NO_BIT,
         }
     }
-}
-
-/// The bytes that everything read is filled with; keys, nonces, associated data
-/// and texts have the salts 1 to 4.
-fn filled(salt: usize, len: usize) -> Vec<u8> {
-    (0..len)
-        .map(|i| ((salt + 29 * i + 17 * (i / 256)) % 256) as u8)
-        .collect()
 }
 
 /// Bytes as a line shows them: whole if they are few, otherwise their BLAKE2b
@@ -192,32 +184,17 @@ fn short_lines() -> Vec<String> {
     [0, 1, 16, 17].map(short_line).to_vec()
 }
 
-/// All lines.
-fn lines() -> Vec<String> {
+/// All lines of HyENA.
+pub fn lines() -> Vec<String> {
     let cards = [length_cards(), refused_cards(), bit_cards()].concat();
     let card_lines: Vec<String> = cards.iter().map(line).collect();
     [card_lines, short_lines()].concat()
 }
 
-/// What the command prints.
-pub fn edges() -> String {
-    lines().iter().map(|line| format!("{line}\n")).collect()
-}
-
 #[cfg(test)]
 mod tests {
+    use super::super::tests::{fields, with_number};
     use super::*;
-
-    fn fields(line: &str) -> Vec<&str> {
-        line.split(' ').collect()
-    }
-
-    /// How many of `lines` have `number` in the field at `place`.
-    fn with_number(lines: &[String], place: usize, number: u32) -> usize {
-        let number = number.to_string();
-        let has_it = |line: &&String| fields(line)[place] == number;
-        lines.iter().filter(has_it).count()
-    }
 
     #[test]
     fn every_number_comes_as_often_as_it_was_meant_to() {
@@ -262,15 +239,6 @@ mod tests {
         all.sort_unstable();
         all.dedup();
         assert_eq!(all.len(), 98 + 48 + 128);
-    }
-
-    #[test]
-    fn filling_follows_its_rule() {
-        assert_eq!(filled(1, 4), [1, 30, 59, 88]);
-        assert_eq!(filled(250, 2), [250, 23]);
-        let long = filled(3, 513);
-        assert_eq!(long[255..257], [230, 20]);
-        assert_eq!(long[511..], [247, 37]);
     }
 
     #[test]

@@ -1,7 +1,7 @@
 use Prim.Native.Nat.{_-_, _≤_}
 use borrow.Author.Needs.{needs}
-use Rattle.edges.proofs.short_forms.Statement.{statement}
-use Rattle.edges.proofs.short_forms.Tie as tie
+use Rattle.edges.proofs.cards.short_forms.Statement.{statement}
+use Rattle.edges.proofs.cards.short_forms.Tie as tie
 
 abbrev Inv-loop : tie.InvT-loop
 Inv-loop key nonce text i₀ i = i ≤ 4

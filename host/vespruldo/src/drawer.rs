@@ -1,0 +1,198 @@
+//! The drawer of nonces.
+
+use crate::refusal::{outcome, Refusal};
+
+/// What a draw of the archive answers: the document's number, the bytes, and
+/// the drawer that is handed back.
+#[repr(C)]
+struct Drawn<const N: usize> {
+    number: u32,
+    bytes: [u8; N],
+    next: Drawer,
+}
+
+extern "C" {
+    fn vespruldo_drawer_start(reader: u32, count: u64) -> Drawer;
+    fn vespruldo_drawer_draw(drawer: Drawer) -> Drawn<12>;
+    fn vespruldo_drawer_iv(drawer: Drawer) -> Drawn<48>;
+}
+
+/// A drawer of nonces: a reader number and a count, both given at its start.
+/// Each draw hands out the two in 12 bytes, and the count grows by one. What is
+/// drawn from one drawer never repeats.
+///
+/// A drawer cannot be copied or cloned, for a copy would hand out the same
+/// numbers again:
+///
+/// ```compile_fail,E0599
+/// let drawer = vespruldo::Drawer::start(7, 0);
+/// let copy = drawer.clone();
+/// ```
+///
+/// For each text that is sealed a nonce is drawn:
+///
+/// ```
+/// use vespruldo::Drawer;
+///
+/// let mut drawer = Drawer::start(7, 0);
+/// let key = [1; 16];
+/// let (mut ciphertext, mut tag) = ([0; 4], [0; 16]);
+/// for text in [b"Anna", b"Bert"] {
+///     let nonce = drawer.draw()?;
+///     vespruldo::seal(&key, &nonce, b"class 7", text, &mut ciphertext, &mut tag)?;
+///
+///     let mut opened = [0; 4];
+///     vespruldo::open(&key, &nonce, b"class 7", &ciphertext, &tag, &mut opened)?;
+///     assert_eq!(opened, *text);
+/// }
+/// assert_eq!(drawer.count(), 2);
+/// # Ok::<(), vespruldo::Refusal>(())
+/// ```
+///
+/// Nothing is claimed across starts. A drawer that is started again from an
+/// older count repeats what was drawn since:
+///
+/// ```
+/// use vespruldo::Drawer;
+///
+/// let mut drawer = Drawer::start(7, 0);
+/// let older = drawer.count();
+/// let nonce = drawer.draw()?;
+/// let newer = drawer.count();
+///
+/// assert_eq!(Drawer::start(7, older).draw()?, nonce);
+/// assert_ne!(Drawer::start(7, newer).draw()?, nonce);
+/// # Ok::<(), vespruldo::Refusal>(())
+/// ```
+#[repr(C)]
+#[derive(Debug, PartialEq, Eq)]
+pub struct Drawer {
+    reader: u32,
+    count: u64,
+}
+
+impl Drawer {
+    /// The drawer with this reader number and this count. Readers that share a
+    /// key need different reader numbers, and a reader that starts again must
+    /// go on from the count it had come to.
+    #[must_use]
+    pub fn start(reader: u32, count: u64) -> Drawer {
+        // SAFETY: see the crate's root.
+        unsafe { vespruldo_drawer_start(reader, count) }
+    }
+
+    /// Draws 12 bytes, a nonce: reader number, then count, both little-endian.
+    /// The count grows by one. A refused draw leaves the drawer as it was.
+    ///
+    /// ```
+    /// let mut drawer = vespruldo::Drawer::start(0x0102_0304, 5);
+    /// assert_eq!(drawer.draw()?, [4, 3, 2, 1, 5, 0, 0, 0, 0, 0, 0, 0]);
+    /// assert_eq!(drawer.draw()?, [4, 3, 2, 1, 6, 0, 0, 0, 0, 0, 0, 0]);
+    /// # Ok::<(), vespruldo::Refusal>(())
+    /// ```
+    ///
+    /// The last count that is handed out is 2^64 - 2:
+    ///
+    /// ```
+    /// use vespruldo::{Drawer, Refusal};
+    ///
+    /// let mut drawer = Drawer::start(7, u64::MAX - 1);
+    /// assert!(drawer.draw().is_ok());
+    /// assert_eq!(drawer.draw(), Err(Refusal::DrawerSpent));
+    /// assert_eq!(drawer.iv(), Err(Refusal::DrawerSpent));
+    /// assert_eq!(drawer, Drawer::start(7, u64::MAX));
+    /// ```
+    ///
+    /// # Errors
+    ///
+    /// [`Refusal::DrawerSpent`] if the count is 2^64 - 1.
+    pub fn draw(&mut self) -> Result<[u8; 12], Refusal> {
+        // SAFETY: see the crate's root.
+        self.hand_over(|drawer| unsafe { vespruldo_drawer_draw(drawer) })
+    }
+
+    /// Draws 48 bytes, an iv: one draw written four times. The count grows by
+    /// one. A refused iv leaves the drawer as it was.
+    ///
+    /// ```
+    /// let mut drawer = vespruldo::Drawer::start(7, 0);
+    /// let iv = drawer.iv()?;
+    /// assert_eq!(iv[..12], iv[36..]);
+    /// assert_eq!(drawer.count(), 1);
+    ///
+    /// let mut block = *b"A wide block has more than 32 bytes.";
+    /// vespruldo::lioness_encipher(&[1; 128], &iv, &mut block)?;
+    /// # Ok::<(), vespruldo::Refusal>(())
+    /// ```
+    ///
+    /// # Errors
+    ///
+    /// As for [`Drawer::draw`].
+    pub fn iv(&mut self) -> Result<[u8; 48], Refusal> {
+        // SAFETY: see the crate's root.
+        self.hand_over(|drawer| unsafe { vespruldo_drawer_iv(drawer) })
+    }
+
+    /// The reader number.
+    #[must_use]
+    pub fn reader(&self) -> u32 {
+        self.reader
+    }
+
+    /// The count of the next draw. Written down after a draw and before the
+    /// number drawn is used, it is where a restart may go on: that number is
+    /// then never drawn again.
+    #[must_use]
+    pub fn count(&self) -> u64 {
+        self.count
+    }
+
+    /// Hands the drawer to `draw` and, unless that refuses, takes the one handed
+    /// back in its place.
+    fn hand_over<const N: usize>(
+        &mut self,
+        draw: impl FnOnce(Drawer) -> Drawn<N>,
+    ) -> Result<[u8; N], Refusal> {
+        let Drawer { reader, count } = *self;
+        let drawn = draw(Drawer { reader, count });
+        outcome(drawn.number, &[Refusal::DrawerSpent])?;
+        *self = drawn.next;
+        Ok(drawn.bytes)
+    }
+}
+
+#[cfg(test)]
+mod tests {
+    use super::*;
+
+    /// What a made-up draw with this number leaves of the drawer 1, 2.
+    fn after(number: u32) -> (Result<[u8; 2], Refusal>, Drawer) {
+        let (reader, count) = (1, 2);
+        let mut drawer = Drawer { reader, count };
+        let drawn = drawer.hand_over(|handed| {
+            assert_eq!(handed, Drawer { reader, count });
+            Drawn {
+                number,
+                bytes: [3, 4],
+                next: Drawer {
+                    reader: 5,
+                    count: 6,
+                },
+            }
+        });
+        (drawn, drawer)
+    }
+
+    #[test]
+    fn drawer_handed_back_is_taken_unless_the_draw_is_refused() {
+        let [before, next] = [(1, 2), (5, 6)].map(|(reader, count)| Drawer { reader, count });
+        assert_eq!(after(0), (Ok([3, 4]), next));
+        assert_eq!(after(9), (Err(Refusal::DrawerSpent), before));
+    }
+
+    #[test]
+    #[should_panic(expected = "the archive answered 8,")]
+    fn a_number_not_promised_is_not_swallowed() {
+        let _ = after(8);
+    }
+}

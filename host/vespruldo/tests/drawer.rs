@@ -1,0 +1,249 @@
+//! The drawer of the archive beside the second implementation.
+
+mod common;
+
+use std::collections::BTreeSet;
+
+use common::{number, up_to};
+use second::drawer;
+use second::random::Random;
+use vespruldo::{Drawer, Refusal};
+
+/// The archive's functions themselves. The safe ones show neither the bytes that
+/// a refused draw answers nor the drawer that it hands back.
+mod raw {
+    #[repr(C)]
+    #[derive(Clone, Copy)]
+    pub struct Drawer {
+        pub reader: u32,
+        pub count: u64,
+    }
+
+    #[repr(C)]
+    pub struct Draw {
+        pub number: u32,
+        pub bytes: [u8; 12],
+        pub next: Drawer,
+    }
+
+    #[repr(C)]
+    pub struct Iv {
+        pub number: u32,
+        pub bytes: [u8; 48],
+        pub next: Drawer,
+    }
+
+    extern "C" {
+        pub fn vespruldo_drawer_start(reader: u32, count: u64) -> Drawer;
+        pub fn vespruldo_drawer_draw(drawer: Drawer) -> Draw;
+        pub fn vespruldo_drawer_iv(drawer: Drawer) -> Iv;
+    }
+}
+
+/// What is taken from a drawer: a draw or an iv.
+#[derive(Clone, Copy, Debug)]
+enum Taken {
+    Draw,
+    Iv,
+}
+
+const BOTH: [Taken; 2] = [Taken::Draw, Taken::Iv];
+
+/// The document's number, the bytes, and reader number and count of the drawer
+/// handed back.
+type Answer = (u32, Vec<u8>, u32, u64);
+
+impl Taken {
+    fn random(random: &mut Random) -> Taken {
+        BOTH[up_to(random, 1)]
+    }
+
+    /// What the archive answers.
+    fn raw(self, reader: u32, count: u64) -> Answer {
+        // SAFETY: drawers and answers go by value, and every drawer is allowed.
+        let (number, bytes, next) = unsafe {
+            let drawer = raw::vespruldo_drawer_start(reader, count);
+            match self {
+                Taken::Draw => {
+                    let drawn = raw::vespruldo_drawer_draw(drawer);
+                    (drawn.number, drawn.bytes.to_vec(), drawn.next)
+                }
+                Taken::Iv => {
+                    let drawn = raw::vespruldo_drawer_iv(drawer);
+                    (drawn.number, drawn.bytes.to_vec(), drawn.next)
+                }
+            }
+        };
+        (number, bytes, next.reader, next.count)
+    }
+
+    /// What the second implementation answers.
+    fn seconds(self, reader: u32, count: u64) -> Answer {
+        let drawer = drawer::start(reader, count);
+        let (number, bytes, next) = match self {
+            Taken::Draw => {
+                let drawn = drawer::draw(drawer);
+                (drawn.number, drawn.bytes.to_vec(), drawn.next)
+            }
+            Taken::Iv => {
+                let drawn = drawer::iv(drawer);
+                (drawn.number, drawn.bytes.to_vec(), drawn.next)
+            }
+        };
+        (number, bytes, next.reader, next.count)
+    }
+
+    /// What the safe function answers.
+    fn safe(self, drawer: &mut Drawer) -> Result<Vec<u8>, Refusal> {
+        match self {
+            Taken::Draw => drawer.draw().map(Vec::from),
+            Taken::Iv => drawer.iv().map(Vec::from),
+        }
+    }
+
+    /// Takes this from `drawer`, and all that is answered agrees. Gives the
+    /// number that was handed out, once, if one was.
+    fn compare(self, drawer: &mut Drawer) -> Option<Vec<u8>> {
+        let (reader, count) = (drawer.reader(), drawer.count());
+        let case = format!("{self:?} at {reader} {count}");
+        let expected = self.seconds(reader, count);
+        assert_eq!(self.raw(reader, count), expected, "{case}");
+        let safe = self.safe(drawer);
+        assert_eq!(number(safe.clone()), expected.0, "{case}");
+        assert_eq!(drawer.reader(), expected.2, "{case}");
+        assert_eq!(drawer.count(), expected.3, "{case}");
+        let bytes = safe.ok()?;
+        assert_eq!(bytes, expected.1, "{case}");
+        Some(bytes[..12].to_vec())
+    }
+}
+
+/// The drawer at its start, which holds what it was given.
+fn start(reader: u32, count: u64) -> Drawer {
+    // SAFETY: numbers and drawers go by value, and all of them are allowed.
+    let raw = unsafe { raw::vespruldo_drawer_start(reader, count) };
+    assert_eq!((raw.reader, raw.count), (reader, count));
+    let drawer = Drawer::start(reader, count);
+    assert_eq!((drawer.reader(), drawer.count()), (reader, count));
+    drawer
+}
+
+/// A draw and an iv, each from this drawer.
+fn compare_both(reader: u32, count: u64) {
+    for taken in BOTH {
+        taken.compare(&mut start(reader, count));
+    }
+}
+
+/// Counts next to each power of two, and as far from the end.
+fn border_counts() -> BTreeSet<u64> {
+    (0..64)
+        .map(|bit| 1_u64 << bit)
+        .flat_map(|power| [power - 1, power, power + 1])
+        .flat_map(|count| [count, u64::MAX - count])
+        .collect()
+}
+
+#[test]
+fn every_border_of_the_numbers_agrees() {
+    for count in border_counts() {
+        for reader in [0, 1, 0x0102_0304, 0x8000_0000, u32::MAX] {
+            compare_both(reader, count);
+        }
+    }
+    for bit in 0..32 {
+        for count in [0, 0x0102_0304_0506_0708, u64::MAX - 1, u64::MAX] {
+            compare_both(1 << bit, count);
+            compare_both(u32::MAX >> bit, count);
+        }
+    }
+}
+
+#[test]
+fn random_drawers_agree() {
+    let mut random = Random::new(80);
+    for _ in 0..200_000 {
+        compare_both(random.next_u64() as u32, random.next_u64());
+    }
+}
+
+/// "Its count after any draws is its start plus the number of draws given", and
+/// no count comes twice. The starts are those from which some byte of the count
+/// carries over on the way, and random ones.
+#[test]
+fn numbers_from_one_start_never_repeat() {
+    let mut random = Random::new(81);
+    let mut starts = vec![0, 1 << 63];
+    starts.extend((2..8).map(|byte| (1_u64 << (8 * byte)) - 1000));
+    starts.extend((0..8).map(|_| random.next_u64() >> 1));
+    for count in starts {
+        let reader = random.next_u64() as u32;
+        let mut drawer = start(reader, count);
+        let mut numbers = BTreeSet::new();
+        for given in 0..10_000 {
+            assert_eq!(drawer.count(), count + given);
+            let drawn = Taken::random(&mut random).compare(&mut drawer);
+            let drawn = drawn.expect("such a drawer is far from spent");
+            assert!(numbers.insert(drawn), "{reader} {count} {given}");
+        }
+        assert_eq!(drawer, Drawer::start(reader, count + 10_000));
+    }
+}
+
+/// With so many counts left, as many numbers are handed out, the last with count
+/// 2^64 - 2. Then everything is refused, and nothing changes any more.
+#[test]
+fn drawers_end_where_the_document_says() {
+    let mut random = Random::new(82);
+    for left in 0..300 {
+        let reader = [0, u32::MAX, random.next_u64() as u32][up_to(&mut random, 2)];
+        let mut drawer = start(reader, u64::MAX - left);
+        let mut last = None;
+        for given in 0..left {
+            last = Taken::random(&mut random).compare(&mut drawer);
+            assert!(last.is_some(), "{given} of {left}");
+        }
+        let last_count = (u64::MAX - 1).to_le_bytes();
+        assert!(last.is_none_or(|number| number[4..] == last_count));
+        for _ in 0..20 {
+            let taken = Taken::random(&mut random);
+            assert_eq!(taken.compare(&mut drawer), None, "{left}");
+            assert_eq!(taken.safe(&mut drawer), Err(Refusal::DrawerSpent));
+            assert_eq!(drawer, Drawer::start(reader, u64::MAX));
+        }
+    }
+}
+
+/// Reader 0 at count 0 draws zeros, a number like any other; the zeros of a
+/// refused draw are none.
+#[test]
+fn zeros_are_told_apart_by_the_number() {
+    for (taken, len) in [(Taken::Draw, 12), (Taken::Iv, 48)] {
+        assert_eq!(taken.raw(0, 0), (0, vec![0; len], 0, 1));
+        for reader in [0, 1, u32::MAX] {
+            let refused = (9, vec![0; len], reader, u64::MAX);
+            assert_eq!(taken.raw(reader, u64::MAX), refused);
+        }
+    }
+    assert_eq!(Drawer::start(0, 0).draw(), Ok([0; 12]));
+    assert_eq!(Drawer::start(0, 0).iv(), Ok([0; 48]));
+}
+
+/// A drawer holds nothing but its two numbers: started again from a count that
+/// was written down, it goes on just as the first one does.
+#[test]
+fn drawers_go_on_from_the_count_written_down() {
+    let mut random = Random::new(83);
+    for _ in 0..1000 {
+        let mut drawer = start(random.next_u64() as u32, random.next_u64() >> 1);
+        for _ in 0..up_to(&mut random, 5) {
+            Taken::random(&mut random).compare(&mut drawer);
+        }
+        let mut again = start(drawer.reader(), drawer.count());
+        for _ in 0..5 {
+            let taken = Taken::random(&mut random);
+            assert_eq!(taken.compare(&mut again), taken.compare(&mut drawer));
+            assert_eq!(again, drawer);
+        }
+    }
+}
