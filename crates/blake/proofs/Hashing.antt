@@ -1,7 +1,7 @@
 -- The compression, the run over the data and the digest, of what the code's calls ensure.
 -- Assumes nothing.
 use mathlib.Core.Path.{_≡_, refl, sym, ap, _∙_}
-use mathlib.Core.Bool.{Bool, true, false}
+use mathlib.Core.Bool.{Bool, true, false, cond}
 use mathlib.Core.List.{List, [], _∷_, _++_, append-nil}
 use Prim.Native.Nat.{ℕ, zero, suc, _+_, _-_, _*_, _/_, _^_, _≤_, _<_}
 use native.Mathlib.Nat.{mod-eq-of-lt, div-eq-of-lt}
@@ -14,7 +14,6 @@ use Rattle.words.specs.declared.Block.{Block}
 use Rattle.words.specs.Block.{halves, part, loaded}
 use Rattle.words.specs.Bytes.{Bytes, number}
 use Rattle.words.specs.Digits.{tab}
-use Rattle.words.specs.Pick.{pick}
 use Rattle.words.specs.Refuse.{answered}
 use Rattle.words.specs.Words.{words, unwords}
 use Rattle.words.proofs.Bytes.{length-filled, filled-full}
@@ -29,12 +28,12 @@ use Rattle.blake.specs.Entry.{digesting}
 abbrev behind : ℕ → ℕ → List ℕ
 behind t i = getD iv 0 0 ∷ getD iv 1 0 ∷ getD iv 2 0 ∷ getD iv 3 0 ∷ bitXor (getD iv 4 0) t ∷ getD iv 5 0 ∷ i ∷ getD iv 7 0 ∷ []
 
-vectored : (g : ℕ → ℕ) (t i : ℕ) (last : Bool) → t < 2 ^ 64 → i ≡ pick last (bitXor (getD iv 6 0) 0xFFFFFFFFFFFFFFFF) (getD iv 6 0)
+vectored : (g : ℕ → ℕ) (t i : ℕ) (last : Bool) → t < 2 ^ 64 → i ≡ cond last (bitXor (getD iv 6 0) 0xFFFFFFFFFFFFFFFF) (getD iv 6 0)
     → g 0 ∷ g 1 ∷ g 2 ∷ g 3 ∷ g 4 ∷ g 5 ∷ g 6 ∷ g 7 ∷ behind t i ≡ vector (tab g 0 8) t last
 unfolding tab vector iv
 vectored g t i last h e = rw (e, mod-eq-of-lt h, div-eq-of-lt h)
 
-pub vector-is : (h : List ℕ) → length h ≡ 8 → (t i : ℕ) (last : Bool) → t < 2 ^ 64 → i ≡ pick last (bitXor (getD iv 6 0) 0xFFFFFFFFFFFFFFFF) (getD iv 6 0)
+pub vector-is : (h : List ℕ) → length h ≡ 8 → (t i : ℕ) (last : Bool) → t < 2 ^ 64 → i ≡ cond last (bitXor (getD iv 6 0) 0xFFFFFFFFFFFFFFFF) (getD iv 6 0)
     → getD h 0 0 ∷ getD h 1 0 ∷ getD h 2 0 ∷ getD h 3 0 ∷ getD h 4 0 ∷ getD h 5 0 ∷ getD h 6 0 ∷ getD h 7 0 ∷ behind t i ≡ vector h t last
 vector-is h e t i last k f = vectored (λ j. getD h j 0) t i last k f ∙ ap (λ (l : List ℕ). vector l t last) (sym (listed h 8 e))
 

@@ -2,13 +2,12 @@
 -- of sixteen of them, a chain value a list of eight.
 -- Assumes nothing.
 use Prim.Native.Nat.{ℕ, zero, suc, _+_, _-_, _*_, _/_, _%_, _^_}
-use mathlib.Core.Bool.{Bool, true, false}
+use mathlib.Core.Bool.{Bool, true, false, cond}
 use mathlib.Core.List.{List, [], _∷_, _++_}
 use lib.Bits.{bitXor}
 use lib.ListN.{getD, set, take, drop, length}
 use Rattle.words.specs.Bytes.{filled}
 use Rattle.words.specs.Digits.{sumMod, rotr, tab}
-use Rattle.words.specs.Pick.{pick}
 use Rattle.words.specs.Square.{square}
 use Rattle.words.specs.Turns.{turns}
 use Rattle.words.specs.Words.{words, unwords}
@@ -79,7 +78,7 @@ unfoldable pub vector : List ℕ → ℕ → Bool → List ℕ
 vector h t last =
     h ++ (getD iv 0 0 ∷ getD iv 1 0 ∷ getD iv 2 0 ∷ getD iv 3 0
     ∷ bitXor (getD iv 4 0) (t % 2 ^ 64) ∷ bitXor (getD iv 5 0) (t / 2 ^ 64)
-    ∷ pick last (bitXor (getD iv 6 0) 0xFFFFFFFFFFFFFFFF) (getD iv 6 0) ∷ getD iv 7 0 ∷ [])
+    ∷ cond last (bitXor (getD iv 6 0) 0xFFFFFFFFFFFFFFFF) (getD iv 6 0) ∷ getD iv 7 0 ∷ [])
 
 -- the chain value with both halves of a vector added
 unfoldable pub folded : List ℕ → List ℕ → List ℕ

@@ -2,14 +2,13 @@
 use std::num::wrapping_add_u64;
 use words::Block;
 ghost use mathlib.Core.Path.{_≡_};
-ghost use mathlib.Core.Bool.{true, false};
+ghost use mathlib.Core.Bool.{true, false, cond};
 ghost use Prim.Native.Nat.{_+_, _-_, _*_, _/_, _≤_, _<_};
 ghost use lib.Bits.{bitXor};
 ghost use lib.ListN.{length};
 ghost use lib.Seq.{sets};
 ghost use Rattle.words.specs.Block.{part};
 ghost use Rattle.words.specs.Digits.{rotr};
-ghost use Rattle.words.specs.Pick.{pick};
 ghost use Rattle.words.specs.Refuse.{answered};
 ghost use Rattle.words.specs.Words.{words, unwords};
 ghost use Rattle.blake.specs.Blake.{sigmaTable, sigma, mixed, wordAt, mixing, round, rounds, vector, folded, compress, padded, startChain, absorbed, hashed};
@@ -148,7 +147,7 @@ fn vector_of(h: [u64; 8], t: u64, last: bool) -> [u64; 16]
 }
 
 fn inverted(last: bool, x: u64) -> u64
-    ensures { λ r. ⌜ r ≡ pick last (bitXor x 0xFFFFFFFFFFFFFFFF) x ⌝ }
+    ensures { λ r. ⌜ r ≡ cond last (bitXor x 0xFFFFFFFFFFFFFFFF) x ⌝ }
 {
     if last { x ^ 0xFFFFFFFFFFFFFFFF } else { x }
 }

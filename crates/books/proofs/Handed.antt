@@ -1,7 +1,7 @@
 -- The part that is handed back: it lies within its book, and it is 16 bytes long exactly when the number is 0.
 -- Assumes nothing.
 use mathlib.Core.Path.{_≡_, refl, sym, ap, subst⁻¹, _∙_}
-use mathlib.Core.Bool.{Bool, true, false, _&&_, _||_, and-eq-true-iff}
+use mathlib.Core.Bool.{Bool, true, false, cond, _&&_, _||_, and-eq-true-iff}
 use mathlib.Core.List.{List, []}
 use Prim.Native.Nat.{ℕ, _+_, _-_, _*_, _≤_}
 use native.Mathlib.Nat.{add-zero, add-comm, add-sub-cancel-left}
@@ -9,7 +9,6 @@ use native.Mathlib.Omega.{arith}
 use borrow.Author.Tests.{eqb-true, eqb-false, eq-eqb, ne-eqb, ltb-true, not-false}
 use lib.Dec.{eqb}
 use lib.ListN.{length, take, drop}
-use Rattle.words.specs.Pick.{pick}
 use Rattle.words.specs.Refuse.{Answer, answered}
 use Rattle.words.proofs.Lists.{length-part}
 use Rattle.words.proofs.Refusals.{Clear, done-clear, answer-kept, refuse-clear}
@@ -35,7 +34,7 @@ module _ (this last : List ℕ) (c : ℕ) where
       by (holds c this) (holds c last) (not-false _ (k .1 .0)) (key-fits c this (w .0)) (key-fits c last (w .1))
     where
       by : (t u : Bool) → t || u ≡ true → (t ≡ true → keyPlace (entry c this) + 16 ≤ length this) → (u ≡ true → keyPlace (entry c last) + 16 ≤ length last)
-          → Fits this last (pick t (record { book = 0; at = keyPlace (entry c this) }) (record { book = 1; at = keyPlace (entry c last) }))
+          → Fits this last (cond t (record { book = 0; at = keyPlace (entry c this) }) (record { book = 1; at = keyPlace (entry c last) }))
       by true u e f g = (λ _. f refl, λ n. absurd (n refl))
       by false u e f g = (λ z. absurd (omega (arith, z)), λ _. g e)
 
@@ -79,14 +78,14 @@ module _ (this last : List ℕ) (c : ℕ) {f : Found} (e : answered (f .number) 
   last-fits h = fits h .1
 
 module _ (this last : Lent) (c : ℕ) {f : Found} (e : answered (f .number) (place f) ≡ finding (this .bytes) (last .bytes) c) where
-  handed-is : within (pick (eqb (f .book) 0) this last) (f .at) (pick (eqb (f .number) 0) 16 0) ≡ handedBack this last c
+  handed-is : within (cond (eqb (f .book) 0) this last) (f .at) (cond (eqb (f .number) 0) 16 0) ≡ handedBack this last c
   unfolding handedBack
-  handed-is = ap (λ (a : Answer Place). within (pick (eqb (a .left .book) 0) this last) (a .left .at) (pick (eqb (a .number) 0) 16 0)) e
+  handed-is = ap (λ (a : Answer Place). within (cond (eqb (a .left .book) 0) this last) (a .left .at) (cond (eqb (a .number) 0) 16 0)) e
 
   pub nothing : (f .number ≡ 0 → ⊥) → within this 0 0 ≡ handedBack this last c
   nothing h =
       let k : place f ≡ nowhere = place-is _ _ c e ∙ found-none (this .bytes) (last .bytes) c (λ z. h (sym (number-is _ _ c e) ∙ z)) in
-      sym (rw (ne-eqb (f .number) 0 h) (ap (λ (p : Place). within (pick (eqb (p .book) 0) this last) (p .at) 0) k)) ∙ handed-is
+      sym (rw (ne-eqb (f .number) 0 h) (ap (λ (p : Place). within (cond (eqb (p .book) 0) this last) (p .at) 0) k)) ∙ handed-is
 
   pub of-this : f .number ≡ 0 → f .book ≡ 0 → within this (f .at) 16 ≡ handedBack this last c
   of-this h b = sym (rw (eq-eqb (f .number) 0 h, eq-eqb (f .book) 0 b)) ∙ handed-is
@@ -110,7 +109,7 @@ module _ (this last : Lent) (c : ℕ) where
       fit = found-fits (this .bytes) (last .bytes) c h
 
       by : (t : Bool) → (t ≡ true → answer .left .at + 16 ≤ length (this .bytes)) → (t ≡ false → answer .left .at + 16 ≤ length (last .bytes))
-          → length (within (pick t this last) (answer .left .at) 16 .bytes) ≡ 16
+          → length (within (cond t this last) (answer .left .at) 16 .bytes) ≡ 16
       by true f g = let h : answer .left .at + 16 ≤ length (this .bytes) = f refl in length-part (this .bytes) (answer .left .at) 16 (omega arith)
       by false f g = let h : answer .left .at + 16 ≤ length (last .bytes) = g refl in length-part (last .bytes) (answer .left .at) 16 (omega arith)
 

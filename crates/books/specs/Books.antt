@@ -1,14 +1,13 @@
 -- A key book.
 -- Assumes nothing.
 use Prim.Native.Nat.{ℕ, suc, _+_, _*_}
-use mathlib.Core.Bool.{Bool, true, _&&_}
+use mathlib.Core.Bool.{Bool, true, cond, _&&_}
 use mathlib.Core.List.{List, [], _∷_}
 use lib.Dec.{eqb, ltb}
 use lib.ListN.{length}
 use Rattle.words.specs.Block.{part}
 use Rattle.words.specs.Bytes.{number}
 use Rattle.words.specs.Digits.{tab}
-use Rattle.words.specs.Pick.{pick}
 
 -- "A key book is a count of two bytes, little-endian,"
 unfoldable pub count : List ℕ → ℕ
@@ -39,7 +38,7 @@ wellFormed book = eqb (length book) (2 + 18 * count book) && rising (classes boo
 -- how many numbers stand before the first that is c
 unfoldable pub before : ℕ → List ℕ → ℕ
 before c [] = 0
-before c (a ∷ s) = pick (eqb a c) 0 (suc (before c s))
+before c (a ∷ s) = cond (eqb a c) 0 (suc (before c s))
 
 -- the entry for a class; there is none where that many are not there
 abbrev pub entry : ℕ → List ℕ → ℕ

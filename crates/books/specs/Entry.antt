@@ -1,12 +1,11 @@
 -- What the entry points answer.
 -- Assumes nothing.
 use Prim.Native.Nat.{ℕ, _+_}
-use mathlib.Core.Bool.{not, _&&_, _||_}
+use mathlib.Core.Bool.{cond, not, _&&_, _||_}
 use mathlib.Core.List.{List, [], _∷_}
 use lib.Dec.{eqb}
 use denote.Ref.{RefT}
 use Rattle.words.specs.Block.{part}
-use Rattle.words.specs.Pick.{pick}
 use Rattle.words.specs.Refuse.{Row, Answer, answer}
 use Rattle.books.specs.Books.{keyPlace, wellFormed, entry, holds}
 
@@ -29,7 +28,7 @@ nowhere = record { book = 0; at = 0 }
 -- "this term's book wins"
 abbrev pub placed : List ℕ → List ℕ → ℕ → Place
 placed this last c =
-    pick (holds c this) (record { book = 0; at = keyPlace (entry c this) }) (record { book = 1; at = keyPlace (entry c last) })
+    cond (holds c this) (record { book = 0; at = keyPlace (entry c this) }) (record { book = 1; at = keyPlace (entry c last) })
 
 -- the number that is answered, and where the key lies then
 unfoldable pub finding : List ℕ → List ℕ → ℕ → Answer Place
@@ -54,4 +53,4 @@ within s at n = record { start = (s .start .0, s .start .1 + at); bytes = part (
 unfoldable pub handedBack : Lent → Lent → ℕ → Lent
 handedBack this last c =
     let f = finding (this .bytes) (last .bytes) c in
-    within (pick (eqb (f .left .book) 0) this last) (f .left .at) (pick (eqb (f .number) 0) 16 0)
+    within (cond (eqb (f .left .book) 0) this last) (f .left .at) (cond (eqb (f .number) 0) 16 0)

@@ -2,7 +2,7 @@
 -- Assumes nothing.
 use mathlib.Core.Path.{_≡_, refl, sym, ap, _∙_}
 use mathlib.Core.Logic.{_⊎_, inl, inr, ⊎-elim}
-use mathlib.Core.Bool.{Bool, true, false}
+use mathlib.Core.Bool.{Bool, true, false, cond}
 use mathlib.Core.List.{List, [], _∷_}
 use Prim.Native.Nat.{ℕ, suc, _+_, _-_, _^_, _<_, _≤_, min}
 use native.Mathlib.Nat.{add-zero, add-suc, suc-add}
@@ -13,7 +13,6 @@ use lib.Dec.{eqb}
 use lib.ListN.{length, getD, drop, replicate}
 use Rattle.words.specs.Bytes.{number, bytes}
 use Rattle.words.specs.Digits.{tab}
-use Rattle.words.specs.Pick.{pick}
 use Rattle.words.specs.Refuse.{Answer, answered}
 use Rattle.words.proofs.Bytes.{number-bytes}
 use Rattle.words.proofs.Lists.{tab-from, length-tab}
@@ -43,7 +42,7 @@ either : (d : Drawer) → Refused d (drawing d) ⊎ Given d (drawing d)
 unfolding drawing
 either d = by (eqb (d .count) top) (eqb-true (d .count) top) (eqb-false (d .count) top)
   where
-    by : (t : Bool) → (t ≡ true → d .count ≡ top) → (t ≡ false → d .count ≡ top → ⊥) → Refused d (pick t (spent d) (drawn d)) ⊎ Given d (pick t (spent d) (drawn d))
+    by : (t : Bool) → (t ≡ true → d .count ≡ top) → (t ≡ false → d .count ≡ top → ⊥) → Refused d (cond t (spent d) (drawn d)) ⊎ Given d (cond t (spent d) (drawn d))
     by true h k = inl (h refl, refl)
     by false h k = inr (k refl, refl)
 

@@ -12,7 +12,7 @@ use Rattle.words.specs.Bytes.{bytes, plus, plusAt}
 use Rattle.words.specs.Digits.{tab}
 use Rattle.words.specs.Refuse.{Answer, answered}
 use Rattle.words.proofs.Lists.{listed}
-use Rattle.words.proofs.Tests.{pick-has}
+use Rattle.words.proofs.Tests.{cond-has}
 use Rattle.words.proofs.WordLists.{stored-word}
 use Rattle.drawer.specs.declared.Drawer.{Drawer}
 use Rattle.drawer.specs.Drawer.{Handed, nonce, drawing, fourTimes, writtenFourTimes, ivDrawing}
@@ -32,7 +32,7 @@ length-nonce d = refl
 -- refused or not
 length-drawn : (d : Drawer) → length (drawing d .left .bytes) ≡ 12
 unfolding drawing
-length-drawn d = pick-has (λ (a : Answer Handed). length (a .left .bytes) ≡ 12) (eqb (d .count) (2 ^ 64 - 1)) refl (length-nonce d)
+length-drawn d = cond-has (λ (a : Answer Handed). length (a .left .bytes) ≡ 12) (eqb (d .count) (2 ^ 64 - 1)) refl (length-nonce d)
 
 -- 12 bytes, added to zeros four times
 unfoldable copied : List ℕ → ℕ → List ℕ → List ℕ

@@ -1,17 +1,16 @@
 -- Enciphering and deciphering undo each other, whichever comes first.
 -- Assumes nothing.
 use mathlib.Core.Path.{_≡_, refl, ap, _∙_}
-use mathlib.Core.Bool.{Bool, true, false, not}
+use mathlib.Core.Bool.{Bool, true, false, cond, not}
 use Prim.Native.Nat.{ℕ, zero, suc, _+_, _-_, _*_, _^_, _≤_, _<_}
 use native.Mathlib.Nat.{zero-lt-suc, mod-lt, suc-sub-suc}
 use native.Mathlib.Omega.{arith}
 use lib.Bits.{bitXor, xor-lt}
 use lib.Dec.{lit<, lit≤}
-use Rattle.words.specs.Pick.{pick}
 use Rattle.words.specs.Turns.{turns}
 use Rattle.words.proofs.ExclusiveOr.{xor-undo}
 use Rattle.words.proofs.Sums.{scatter-lt}
-use Rattle.words.proofs.Tests.{pick-lt}
+use Rattle.words.proofs.Tests.{cond-lt}
 use Rattle.words.proofs.Turns.{turns-same}
 use Rattle.gift.specs.Gift.{bit, subCells, permBits, spread, keyBits, constBits, keyU, keyV, keyAt, roundConst, added, round, rounds, forty, cipher, encipher, decipher}
 use Rattle.gift.proofs.Steps.{subCells-lt, subCells-undone, permBits-lt, permBits-undone}
@@ -84,26 +83,26 @@ rounds-undone back a (suc n) x small h =
 
 -- ---- forty
 
-turned-twice : (back : Bool) (r : ℕ) → r < 40 → pick (not back) (39 - r) r ≡ pick back (39 - (40 - suc r)) (40 - suc r)
+turned-twice : (back : Bool) (r : ℕ) → r < 40 → cond (not back) (39 - r) r ≡ cond back (39 - (40 - suc r)) (40 - suc r)
 turned-twice false r h = omega arith
 turned-twice true r h = omega arith
 
 pub forty-same : (back : Bool) (a b : ℕ → ℕ) (x : ℕ) → ((r : ℕ) → r < 40 → a r ≡ b r) → forty back a x ≡ forty back b x
 unfolding forty
 forty-same back a b x h =
-    rounds-same back (λ r. a (pick back (39 - r) r)) (λ r. b (pick back (39 - r) r)) 40 x (λ r l. let e : 39 - r < 40 = omega arith in h (pick back (39 - r) r) (pick-lt back e l))
+    rounds-same back (λ r. a (cond back (39 - r) r)) (λ r. b (cond back (39 - r) r)) 40 x (λ r l. let e : 39 - r < 40 = omega arith in h (cond back (39 - r) r) (cond-lt back e l))
 
 module _ (back : Bool) (a : ℕ → ℕ) (x : ℕ) (small : (r : ℕ) → a r < 2 ^ 128) (h : x < 2 ^ 128) where
   forty-lt : forty back a x < 2 ^ 128
   unfolding forty
-  forty-lt = rounds-lt back (λ r. a (pick back (39 - r) r)) 40 x (λ r. small (pick back (39 - r) r)) h
+  forty-lt = rounds-lt back (λ r. a (cond back (39 - r) r)) 40 x (λ r. small (cond back (39 - r) r)) h
 
   forty-undone : forty (not back) a (forty back a x) ≡ x
   unfolding forty
   forty-undone =
-      let b : ℕ → ℕ = λ r. a (pick back (39 - r) r) in
-      rounds-same (not back) (λ r. a (pick (not back) (39 - r) r)) (λ r. b (40 - suc r)) 40 (rounds back b 40 x) (λ r l. ap a (turned-twice back r l))
-      ∙ rounds-undone back b 40 x (λ r. small (pick back (39 - r) r)) h
+      let b : ℕ → ℕ = λ r. a (cond back (39 - r) r) in
+      rounds-same (not back) (λ r. a (cond (not back) (39 - r) r)) (λ r. b (40 - suc r)) 40 (rounds back b 40 x) (λ r l. ap a (turned-twice back r l))
+      ∙ rounds-undone back b 40 x (λ r. small (cond back (39 - r) r)) h
 
 -- for every key and every block below 2 ^ 128
 module _ (back : Bool) (k x : ℕ) (h : x < 2 ^ 128) where

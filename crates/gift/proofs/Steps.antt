@@ -1,19 +1,18 @@
 -- The S-box and the bit move: each below its bound and undone by the way back, by tests that antt computes.
 -- Assumes nothing.
 use mathlib.Core.Path.{_≡_, refl, sym, ap, _∙_}
-use mathlib.Core.Bool.{Bool, true, false, not}
+use mathlib.Core.Bool.{Bool, true, false, cond, not, _&&_}
 use Prim.Native.Nat.{ℕ, _+_, _*_, _/_, _%_, _^_, _<_}
 use native.Mathlib.Nat.{zero-lt-suc, mod-lt}
 use lib.Dec.{T, ltb, eqb, ltb→lt, eqb→eq}
 use Rattle.words.specs.Digits.{xsum}
-use Rattle.words.specs.Pick.{pick}
 use Rattle.words.proofs.Sums.{digit-scatter, scatter-lt, digit-ext}
-use Rattle.words.proofs.Tests.{both, both-left, both-right, allBelow, below}
+use Rattle.words.proofs.Tests.{and-left, and-right, allBelow, below}
 use Rattle.gift.specs.Gift.{bit, nibble, sbox, source, subCells, place, permBits}
 
 -- p goes from the numbers below n to themselves, and q undoes it
 abbrev undoing : (ℕ → ℕ) → (ℕ → ℕ) → ℕ → ℕ → Bool
-undoing p q n i = both (ltb (p i) n) (eqb (q (p i)) i)
+undoing p q n i = ltb (p i) n && eqb (q (p i)) i
 
 abbrev Undoes : (ℕ → ℕ) → (ℕ → ℕ) → ℕ → Type 0
 Undoes p q n = (i : ℕ) → i < n → (p i < n) × (q (p i) ≡ i)
@@ -21,7 +20,7 @@ Undoes p q n = (i : ℕ) → i < n → (p i < n) × (q (p i) ≡ i)
 undoes : (p q : ℕ → ℕ) (n : ℕ) → T (allBelow (undoing p q n) n) → Undoes p q n
 undoes p q n t i l =
     let b = below (undoing p q n) n t i l in
-    (ltb→lt (p i) n (both-left (ltb (p i) n) (eqb (q (p i)) i) b), eqb→eq (q (p i)) i (both-right (ltb (p i) n) (eqb (q (p i)) i) b))
+    (ltb→lt (p i) n (and-left (ltb (p i) n) (eqb (q (p i)) i) b), eqb→eq (q (p i)) i (and-right (ltb (p i) n) (eqb (q (p i)) i) b))
 
 -- ---- the S-box
 
@@ -36,7 +35,7 @@ entry back p n = eqb (p / 2 ^ (4 * n) % 16) (sbox back n)
 
 -- of p on the way back, of q on the way there
 pub packed : (back : Bool) (p q : ℕ) → T (allBelow (entry true p) 16) → T (allBelow (entry false q) 16) → (n : ℕ) → n < 16
-    → pick back p q / 2 ^ (4 * n) % 16 ≡ sbox back n
+    → cond back p q / 2 ^ (4 * n) % 16 ≡ sbox back n
 packed false p q t u n h = eqb→eq _ _ (below (entry false q) 16 u n h)
 packed true p q t u n h = eqb→eq _ _ (below (entry true p) 16 t n h)
 

@@ -3,13 +3,12 @@
 -- the way back: "Deciphering undoes the rounds."
 -- Assumes nothing.
 use Prim.Native.Nat.{ℕ, zero, suc, _+_, _-_, _*_, _/_, _%_, _^_}
-use mathlib.Core.Bool.{Bool, true, false}
+use mathlib.Core.Bool.{Bool, true, false, cond}
 use mathlib.Core.List.{List, [], _∷_}
 use lib.Bits.{bitXor}
 use lib.Dec.{eqb}
 use lib.ListN.{getD}
 use Rattle.words.specs.Digits.{digit, rotr, xsum}
-use Rattle.words.specs.Pick.{pick}
 use Rattle.words.specs.Turns.{turns}
 
 -- bit i and nibble j of x, counted from the lowest
@@ -27,7 +26,7 @@ entries = 0x1 ∷ 0xA ∷ 0x4 ∷ 0xC ∷ 0x6 ∷ 0xF ∷ 0x3 ∷ 0x9 ∷ 0x2 �
 -- of the numbers below n, the one that the S-box takes to y
 unfoldable pub source : ℕ → ℕ → ℕ
 source zero y = 0
-source (suc n) y = pick (eqb (getD entries n 0) y) n (source n y)
+source (suc n) y = cond (eqb (getD entries n 0) y) n (source n y)
 
 unfoldable pub sbox : Bool → ℕ → ℕ
 sbox false n = getD entries n 0
@@ -43,7 +42,7 @@ place i = 4 * (i / 16) + 32 * ((3 * (i % 16 / 4) + i % 4) % 4) + i % 4
 
 -- bit i to its place, and back from there
 unfoldable pub permBits : Bool → ℕ → ℕ
-permBits back x = xsum (λ i. bit (pick back (place i) i) x * 2 ^ pick back i (place i)) 128
+permBits back x = xsum (λ i. bit (cond back (place i) i) x * 2 ^ cond back i (place i)) 128
 
 -- ---- 3. "The key state is k7..k0, words of 16 bits, k0 lowest. Let U = k5 then k4 and V = k1 then k0, the first word higher."
 
@@ -106,7 +105,7 @@ rounds back a n x = turns (λ r. round back (a r)) n x
 
 -- "Forty rounds", and back from the last
 unfoldable pub forty : Bool → (ℕ → ℕ) → ℕ → ℕ
-forty back a x = rounds back (λ r. a (pick back (39 - r) r)) 40 x
+forty back a x = rounds back (λ r. a (cond back (39 - r) r)) 40 x
 
 unfoldable pub cipher : Bool → ℕ → ℕ → ℕ
 cipher back k x = forty back (added k) x

@@ -1,10 +1,10 @@
 // GIFT-128, both ways.
+ghost use mathlib.Core.Bool.{cond};
 ghost use mathlib.Core.Path.{_≡_};
 ghost use Prim.Native.Nat.{_+_, _-_, _*_, _/_, _%_, _<_, _≤_, _^_};
 ghost use lib.Bits.{bitXor};
 ghost use Rattle.words.specs.Block.{value, halves};
 ghost use Rattle.words.specs.Digits.{rotr};
-ghost use Rattle.words.specs.Pick.{pick};
 ghost use Rattle.words.specs.Refuse.{answered};
 ghost use Rattle.gift.specs.Gift.{sbox, subCells, permBits, spread, keyBits, stepConst, constBits, keyStep, round, forty};
 ghost use Rattle.gift.specs.Entry.{placeTable, additions, addition, enciphers, deciphers, crypting, enciphering, deciphering};
@@ -97,7 +97,7 @@ fn forty_rounds(back: bool, a: Additions, x: Block) -> Block
 // Which round comes r-th.
 fn turn(back: bool, r: usize) -> usize
     requires { ⌜ r < 40 ⌝ }
-    ensures { λ t. ⌜ (t ≡ pick back (39 - r) r) × (t < 40) ⌝ }
+    ensures { λ t. ⌜ (t ≡ cond back (39 - r) r) × (t < 40) ⌝ }
 {
     if back { 39 - r } else { r }
 }
@@ -156,7 +156,7 @@ fn perm_bits(back: bool, x: Block, places: &[u8; 128]) -> Block
 }
 
 fn either(first: bool, a: u64, b: u64) -> u64
-    ensures { λ r. ⌜ r ≡ pick first a b ⌝ }
+    ensures { λ r. ⌜ r ≡ cond first a b ⌝ }
 {
     if first { a } else { b }
 }

@@ -1,7 +1,7 @@
 -- States stay below 2 ^ 128 and masks below 2 ^ 64.
 -- Assumes nothing.
 use mathlib.Core.Path.{_≡_, sym, ap, ap₂, subst, _∙_}
-use mathlib.Core.Bool.{Bool, true, false}
+use mathlib.Core.Bool.{Bool, true, false, cond}
 use mathlib.Core.List.{List}
 use Prim.Native.Nat.{ℕ, zero, suc, _+_, _*_, _/_, _%_, _^_, _<_}
 use native.Mathlib.Nat.{mod-lt}
@@ -11,11 +11,10 @@ use lib.Dec.{eqb, lit<}
 use lib.ListN.{length}
 use lib.Pow.{pow-pos, shr-lt, high, low, split}
 use Rattle.words.specs.Bytes.{Bytes, number, bytes, pad}
-use Rattle.words.specs.Pick.{pick}
 use Rattle.words.specs.Turns.{turns}
 use Rattle.words.proofs.Bytes.{bytes-bytes, bytes-filled, length-filled, number-lt}
 use Rattle.words.proofs.Plus.{bytes-plus}
-use Rattle.words.proofs.Tests.{pick-has, pick-lt}
+use Rattle.words.proofs.Tests.{cond-has, cond-lt}
 use Rattle.hyena.specs.Demands.{Inverted}
 use Rattle.hyena.specs.Hyena.{Fed, State, upper, lower, joined, double, doubles, before, blockAt, last, full, empty, walk, output, feedback, feed, startBlock, dataFirst, dataEach, dataLast, afterData, textBlock, afterText, swapped, begun, ended, tag}
 use Rattle.hyena.proofs.Cuts.{last-bytes, walk-keeps}
@@ -46,7 +45,7 @@ swapped-inj {x} {y} hx hy e =
 
 double-lt : (x : ℕ) → double x < 2 ^ 64
 unfolding double
-double-lt x = xor-lt 64 (x * 2 % 2 ^ 64) (pick (eqb (x / 2 ^ 63) 1) 0x1B 0) (lower-lt (x * 2)) (pick-lt (eqb (x / 2 ^ 63) 1) (lit< tt) (lit< tt))
+double-lt x = xor-lt 64 (x * 2 % 2 ^ 64) (cond (eqb (x / 2 ^ 63) 1) 0x1B 0) (lower-lt (x * 2)) (cond-lt (eqb (x / 2 ^ 63) 1) (lit< tt) (lit< tt))
 
 pub doubles-lt : (k x : ℕ) → x < 2 ^ 64 → doubles k x < 2 ^ 64
 unfolding turns
@@ -85,7 +84,7 @@ start-lt : (nonce : List ℕ) (a d : ℕ) → Bytes nonce → length nonce ≡ 1
 unfolding startBlock
 start-lt nonce a d hn ln = digits-lt (subst (λ (n : ℕ). number nonce < 256 ^ n) ln (number-lt nonce hn)) (marks-lt (eqb a 0) (eqb d 0))
   where
-    marks-lt : (p q : Bool) → pick {A = ℕ} p (pick q 1 0) 0 * 2 + pick p 1 0 < 2 ^ 32
+    marks-lt : (p q : Bool) → cond {A = ℕ} p (cond q 1 0) 0 * 2 + cond p 1 0 < 2 ^ 32
     marks-lt true true = lit< tt
     marks-lt true false = lit< tt
     marks-lt false q = lit< tt
@@ -102,9 +101,9 @@ module _ {E D : ℕ → ℕ} (inv : Inverted E D) where
   afterData-fits : (f : Fed) (a : List ℕ) → FedFits f → Bytes a → Fits (afterData E f a)
   unfolding afterData walk
   afterData-fits f a p h =
-      pick-has Fits (empty a)
+      cond-has Fits (empty a)
       (dataLast-fits 2 f (bytes 16 1) p (bytes-bytes 16 1))
-      (dataLast-fits (pick (full (last a)) 1 2) (turns (λ i u. dataEach E u (blockAt a i)) (before a) f) (last a)
+      (dataLast-fits (cond (full (last a)) 1 2) (turns (λ i u. dataEach E u (blockAt a i)) (before a) f) (last a)
       (walk-keeps (dataEach E) FedFits dataEach-fits f a (before a) p h) (last-bytes a h))
 
   -- after the associated data
@@ -124,8 +123,8 @@ module _ {E D : ℕ → ℕ} (inv : Inverted E D) where
   afterText-fits : (opening : Bool) (t : State) (s : List ℕ) → Fits t → Bytes s → Fits (afterText E opening t s)
   unfolding afterText walk
   afterText-fits opening t s p h =
-      pick-has Fits (empty s) p
-      (textBlock-fits opening (pick (full (last s)) 2 3) (textAt E opening s t (before s)) (last s) (textAt-fits opening t s (before s) p h) (last-bytes s h))
+      cond-has Fits (empty s) p
+      (textBlock-fits opening (cond (full (last s)) 2 3) (textAt E opening s t (before s)) (last s) (textAt-fits opening t s (before s) p h) (last-bytes s h))
 
   pub tag-lt : (opening : Bool) (nonce a d : List ℕ) → Bytes nonce → length nonce ≡ 12 → Bytes a → Bytes d → tag E opening nonce a d < 2 ^ 128
   unfolding tag ended

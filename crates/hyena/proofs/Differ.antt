@@ -1,7 +1,7 @@
 -- Demand 3: ciphertexts that differ in the last block only have different tags, for every block function with an inverse.
 -- Assumes nothing.
 use mathlib.Core.Path.{_≡_, refl, sym, ap, ap₂, subst, _∙_}
-use mathlib.Core.Bool.{Bool, true}
+use mathlib.Core.Bool.{Bool, true, cond}
 use mathlib.Core.List.{List, [], _∷_}
 use Prim.Native.Nat.{ℕ, zero, suc, _^_, _≤_, _<_}
 use native.Mathlib.Nat.{suc-inj}
@@ -11,7 +11,6 @@ use lib.Bits.{bitXor, xor-lt, xor-comm}
 use lib.Dec.{lit<}
 use lib.ListN.{length, take, drop, replicate, length-take, length-drop}
 use Rattle.words.specs.Bytes.{Bytes, number, bytes, filled, pad, plus}
-use Rattle.words.specs.Pick.{pick}
 use Rattle.words.proofs.Bytes.{bytes-take, bytes-drop, bytes-filled, length-filled, length-bytes, number-inj, number-lt, number-split}
 use Rattle.words.proofs.ExclusiveOr.{xor-cancel}
 use Rattle.hyena.specs.Demands.{Inverted, Alike}
@@ -123,18 +122,18 @@ module _ {E D : ℕ → ℕ} (inv : Inverted E D) where
       feed-told (E (t .X)) (doubles k (t .Δ)) c d (doubles-lt k (t .Δ) (p .1)) hc hd lc ld ends
       (tag-told (textBlock-fits inv true k t c p hc .0) (textBlock-fits inv true k t d p hd .0) e)
 
-  text-alike : (t : State) (c d : List ℕ) → Alike c d → afterText E true t d ≡ textBlock E true (pick (full (last c)) 2 3) (textAt E true c t (before c)) (last d)
+  text-alike : (t : State) (c d : List ℕ) → Alike c d → afterText E true t d ≡ textBlock E true (cond (full (last c)) 2 3) (textAt E true c t (before c)) (last d)
   unfolding afterText
   text-alike t c d al =
       rw (ne-eqb (length d) 0 (al .some-d))
-      (walk-alike (textBlock E true 1) (λ u s. textBlock E true (pick (full s) 2 3) u s) t c d (al .as-many) (al .equal)
-      ∙ ap (λ (b : Bool). textBlock E true (pick b 2 3) (textAt E true c t (before c)) (last d)) (sym (al .ends)))
+      (walk-alike (textBlock E true 1) (λ u s. textBlock E true (cond (full s) 2 3) u s) t c d (al .as-many) (al .equal)
+      ∙ ap (λ (b : Bool). textBlock E true (cond b 2 3) (textAt E true c t (before c)) (last d)) (sym (al .ends)))
 
   text-told : (t : State) (c d : List ℕ) → Fits t → Bytes c → Bytes d → Alike c d
       → E (swapped (afterText E true t c .X)) ≡ E (swapped (afterText E true t d .X)) → c ≡ d
   text-told t c d p hc hd al e =
       joined-again c d (al .as-many) (al .equal)
-      (block-told (pick (full (last c)) 2 3) (textAt E true c t (before c)) (last c) (last d) (textAt-fits inv true t c (before c) p hc)
+      (block-told (cond (full (last c)) 2 3) (textAt E true c t (before c)) (last c) (last d) (textAt-fits inv true t c (before c) p hc)
       (last-bytes c hc) (last-bytes d hd) (last-le c) (last-le d) (al .ends)
       (ap (λ (u : State). E (swapped (u .X))) (sym (text-some E true t c (al .some-c))) ∙ e ∙ ap (λ (u : State). E (swapped (u .X))) (text-alike t c d al)))
 

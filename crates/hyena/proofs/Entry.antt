@@ -1,7 +1,7 @@
 -- What a call leaves, from what its steps ensure.
 -- Assumes nothing.
 use mathlib.Core.Path.{_≡_, sym, ap, ap₂, fun-ext, _∙_}
-use mathlib.Core.Bool.{Bool, true, false, not}
+use mathlib.Core.Bool.{Bool, true, false, cond, not}
 use mathlib.Core.List.{List}
 use Prim.Native.Nat.{ℕ, _^_, _≤_, _<_}
 use native.Mathlib.Omega.{arith}
@@ -11,7 +11,6 @@ use lib.ListN.{length, replicate, length-replicate}
 use Rattle.words.specs.declared.Block.{Block}
 use Rattle.words.specs.Block.{value, halves, loaded, stored}
 use Rattle.words.specs.Bytes.{number, bytes, over}
-use Rattle.words.specs.Pick.{pick}
 use Rattle.words.specs.Refuse.{Answer, answered, refuse}
 use Rattle.words.proofs.Blocks.{value-halves, value-is, value-lt, loaded-all, stored-all}
 use Rattle.words.proofs.Bytes.{number-bytes}
@@ -92,7 +91,7 @@ module _ (key nonce ad text tag room : List ℕ) (c : Clear (refusals key nonce 
 
 -- a call that is not refused by its lengths goes by the tag
 pub opening-by : (key nonce ad text tag room : List ℕ) → Clear (refusals key nonce ad text tag room) → (t : Bool) → eqb (number tag) (number (recomputed key nonce ad text)) ≡ t
-    → opening key nonce ad text tag room ≡ pick t (answered 0 (over (textOf key nonce ad text) room)) (answered 7 (over (replicate (length text) 0) room))
+    → opening key nonce ad text tag room ≡ cond t (answered 0 (over (textOf key nonce ad text) room)) (answered 7 (over (replicate (length text) 0) room))
 unfolding opening
 opening-by key nonce ad text tag room c true e = refuse-clear room _ (refusals key nonce ad text tag room) c ∙ rw e
 opening-by key nonce ad text tag room c false e = refuse-clear room _ (refusals key nonce ad text tag room) c ∙ rw e

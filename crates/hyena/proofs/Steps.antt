@@ -1,7 +1,7 @@
 -- What the code's steps make, from what their calls ensure.
 -- Assumes nothing.
 use mathlib.Core.Path.{_≡_, refl, sym, ap, ap₂, subst, _∙_}
-use mathlib.Core.Bool.{Bool, true, false}
+use mathlib.Core.Bool.{Bool, true, false, cond}
 use mathlib.Core.List.{List, [], _∷_}
 use Prim.Native.Nat.{ℕ, zero, suc, _+_, _-_, _*_, _/_, _%_, _^_, _≤_, _<_}
 use native.Mathlib.Omega.{arith}
@@ -14,14 +14,13 @@ use borrow.Author.Tests.{eq-eqb, ne-eqb, eqb-true, eqb-false}
 use Rattle.words.specs.declared.Block.{Block}
 use Rattle.words.specs.Block.{value, halves, part, loaded, loadedPad, stored}
 use Rattle.words.specs.Bytes.{Bytes, number, bytes, pad, over}
-use Rattle.words.specs.Pick.{pick}
 use Rattle.words.specs.Turns.{turns}
 use Rattle.words.proofs.Blocks.{value-halves, halves-value, value-is, loaded-back, stored-back}
 use Rattle.words.proofs.Bytes.{length-bytes, number-split}
 use Rattle.words.proofs.ExclusiveOr.{xor-zero, or-zero}
 use Rattle.words.proofs.Over.{over-next}
 use Rattle.words.proofs.Plus.{plus-take, bytes-xor}
-use Rattle.words.proofs.Tests.{pick-of}
+use Rattle.words.proofs.Tests.{cond-of}
 use Rattle.words.proofs.Turns.{turns-next}
 use Rattle.words.proofs.WordLists.{loaded-word, word-lt}
 use Rattle.hyena.specs.declared.Before.{Before}
@@ -38,7 +37,7 @@ pub double-is : (x : ℕ) → x < 2 ^ 64 → bitXor (x * 2 % 2 ^ 64) (x / 2 ^ 63
 unfolding double
 double-is x h = ap (bitXor (x * 2 % 2 ^ 64)) (top (x / 2 ^ 63) (omega arith))
   where
-    top : (b : ℕ) → b < 2 → b * 0x1B ≡ pick (eqb b 1) 0x1B 0
+    top : (b : ℕ) → b < 2 → b * 0x1B ≡ cond (eqb b 1) 0x1B 0
     top zero l = refl
     top (suc zero) l = refl
     top (suc (suc b)) l = absurd (omega arith)
@@ -56,15 +55,15 @@ padded-is s n x h es eb =
     eb ∙ ap (λ (l : List ℕ). halves (number (pad l))) (ap (λ (l : List ℕ). part l 0 n) es ∙ stored-back (replicate 16 0) n x refl h)
 
 pub fed-is : (t : Bool) (y d o m c : Block) (mask n : ℕ) {r : Block} → o ≡ halves (bitXor (value d) (value y))
-    → m ≡ halves (number (pad (low n (value (pick t o d))))) → c ≡ halves (number (pad (low n (value (pick t d o)))))
+    → m ≡ halves (number (pad (low n (value (cond t o d))))) → c ≡ halves (number (pad (low n (value (cond t d o)))))
     → r ≡ halves (bitXor (value y) (value (record { lo = bitXor (c .lo) mask; hi = m .hi })))
     → r ≡ halves (feed t (value y) mask (low n (value d)))
 unfolding feed feedback value halves
 fed-is t y d o m c mask n eo em ec er =
     let s = low n (value d) in
     let out : low n (value o) ≡ output s (value y) = ap (low n) (value-is eo) ∙ low-xor n (value d) (value y) in
-    let sideM : low n (value (pick t o d)) ≡ pick t (output s (value y)) s = pick-of (λ b. low n (value b)) t o d ∙ ap (λ l. pick t l s) out in
-    let sideC : low n (value (pick t d o)) ≡ pick t s (output s (value y)) = pick-of (λ b. low n (value b)) t d o ∙ ap (λ l. pick t s l) out in
+    let sideM : low n (value (cond t o d)) ≡ cond t (output s (value y)) s = cond-of (λ b. low n (value b)) t o d ∙ ap (λ l. cond t l s) out in
+    let sideC : low n (value (cond t d o)) ≡ cond t s (output s (value y)) = cond-of (λ b. low n (value b)) t d o ∙ ap (λ l. cond t s l) out in
     er
     ∙ ap₂ (λ (hi lo : ℕ). halves (bitXor (value y) (hi * 2 ^ 64 + bitXor lo mask)))
     (ap (λ (b : Block). b .hi) em ∙ ap (λ (l : List ℕ). number (pad l) / 2 ^ 64) sideM)
@@ -72,13 +71,13 @@ fed-is t y d o m c mask n eo em ec er =
 
 -- ---- the start
 
-marks-are : (p q : Bool) → pick {A = ℕ} p (pick q 3 1) 0 ≡ pick p (pick q 1 0) 0 * 2 + pick p 1 0
+marks-are : (p q : Bool) → cond {A = ℕ} p (cond q 3 1) 0 ≡ cond p (cond q 1 0) 0 * 2 + cond p 1 0
 marks-are true true = refl
 marks-are true false = refl
 marks-are false q = refl
 
 pub start-is : (nonce : List ℕ) (a d m : ℕ) {p q : Block} → Bytes nonce → length nonce ≡ 12 → p ≡ halves (loaded nonce 0 4) → q ≡ halves (loaded nonce 4 8)
-    → m ≡ pick (eqb a 0) (pick (eqb d 0) 3 1) 0 → value (record { lo = p .lo * 2 ^ 32 % 2 ^ 64 + m; hi = q .lo }) ≡ startBlock nonce a d
+    → m ≡ cond (eqb a 0) (cond (eqb d 0) 3 1) 0 → value (record { lo = p .lo * 2 ^ 32 % 2 ^ 64 + m; hi = q .lo }) ≡ startBlock nonce a d
 unfolding value startBlock
 start-is nonce a d m {p} {q} h l ep eq em =
     let lo : p .lo ≡ number (take 4 nonce) = loaded-word nonce h 0 4 ep (omega arith) in
@@ -125,7 +124,7 @@ module _ (E : ℕ → ℕ) (a : List ℕ) (h : Bytes a) where
       ∙ turns-next (λ j u. dataEach E u (blockAt a j)) i f refl refl)
 
   pub data-end : (f : Fed) (k : ℕ) {s : Before} {t : After} {d : Block} → (length a ≡ 0 → ⊥) → s ≡ heldBefore (dataAt E a f (before a))
-      → k ≡ pick (eqb (length a - 16 * before a) 16) 1 2 → d ≡ halves (loaded a (16 * before a) (length a - 16 * before a))
+      → k ≡ cond (eqb (length a - 16 * before a) 16) 1 2 → d ≡ halves (loaded a (16 * before a) (length a - 16 * before a))
       → t ≡ heldAfter (dataLast k (fedOf s) (low (length a - 16 * before a) (value d))) → t ≡ heldAfter (afterData E f a)
   unfolding afterData walk
   data-end f k {s} {t} {d} some es ek ed et =
@@ -180,13 +179,13 @@ module _ (E : ℕ → ℕ) (opening : Bool) (s room₀ : List ℕ) (fits : lengt
         (block-held (textAt E opening s t i) 1 (16 * i) (blockAt s i) (length-at E opening t none s i (omega arith)) (omega (arith, block-length s i l)) held ev er)
 
     pub text-end : (k : ℕ) {u v : After} {room room′ : List ℕ} → (length s ≡ 0 → ⊥) → Held (textAt E opening s t (before s)) room₀ u room
-        → k ≡ pick (eqb (length s - 16 * before s) 16) 2 3
+        → k ≡ cond (eqb (length s - 16 * before s) 16) 2 3
         → v ≡ heldAfter (textBlock E opening k (stateOf u) (part s (16 * before s) (length s - 16 * before s)))
         → room′ ≡ sets room (16 * before s) (output (part s (16 * before s) (length s - 16 * before s)) (E (value (u .x))))
         → Held (afterText E opening t s) room₀ v room′
     text-end k {u} {v} {room} {room′} some held ek ev er =
         let ends : part s (16 * before s) (length s - 16 * before s) ≡ last s = last-part s in
-        let el : k ≡ pick (full (last s)) 2 3 = ek ∙ ap (λ (n : ℕ). pick (eqb n 16) 2 3) (sym (last-length s)) in
+        let el : k ≡ cond (full (last s)) 2 3 = ek ∙ ap (λ (n : ℕ). cond (eqb n 16) 2 3) (sym (last-length s)) in
         subst (λ z. Held z room₀ v room′) (ap (λ (j : ℕ). textBlock E opening j (textAt E opening s t (before s)) (last s)) el ∙ sym (text-some E opening t s some))
         (block-held (textAt E opening s t (before s)) k (16 * before s) (last s) (length-at E opening t none s (before s) (omega arith)) (omega (arith, last-length s)) held
         (ev ∙ ap (λ l. heldAfter (textBlock E opening k (stateOf u) l)) ends) (er ∙ ap (λ l. sets room (16 * before s) (output l (E (value (u .x))))) ends))

@@ -1,7 +1,7 @@
 -- The output is as long as the text, and opening what sealing gave returns the text and the tag: over every block function.
 -- Assumes nothing.
 use mathlib.Core.Path.{_≡_, refl, sym, ap, ap₂, _∙_}
-use mathlib.Core.Bool.{Bool, true, false}
+use mathlib.Core.Bool.{Bool, true, false, cond}
 use mathlib.Core.List.{List, [], _++_, append-assoc}
 use Prim.Native.Nat.{ℕ, zero, suc, _+_, _-_, _*_, _≤_, _<_}
 use native.Mathlib.Nat.{mul-suc}
@@ -11,10 +11,9 @@ use lib.Dec.{eqb}
 use lib.ListN.{length, take, length-append, take-append-drop}
 use lib.Seq.{take-all, take-at, drop-at, take-add}
 use Rattle.words.specs.Bytes.{bytes}
-use Rattle.words.specs.Pick.{pick}
 use Rattle.words.specs.Turns.{turns}
 use Rattle.words.proofs.Plus.{length-plus, plus-twice}
-use Rattle.words.proofs.Tests.{pick-has}
+use Rattle.words.proofs.Tests.{cond-has}
 use Rattle.hyena.specs.Hyena.{Fed, State, before, blockAt, last, full, empty, walk, output, feed, startBlock, dataFirst, dataLast, afterData, textBlock, afterText, begun, ended, outputs, tag, swapped}
 use Rattle.hyena.proofs.Cuts.{block-length, last-length, before-append, last-append}
 
@@ -41,7 +40,7 @@ module _ (E : ℕ → ℕ) (opening : Bool) where
   unfolding afterText
   text-none t s e = rw (eq-eqb (length s) 0 e)
 
-  pub text-some : (t : State) (s : List ℕ) → (length s ≡ 0 → ⊥) → afterText E opening t s ≡ textBlock E opening (pick (full (last s)) 2 3) (textAt E opening s t (before s)) (last s)
+  pub text-some : (t : State) (s : List ℕ) → (length s ≡ 0 → ⊥) → afterText E opening t s ≡ textBlock E opening (cond (full (last s)) 2 3) (textAt E opening s t (before s)) (last s)
   unfolding afterText walk
   text-some t s h = rw (ne-eqb (length s) 0 h)
 
@@ -57,7 +56,7 @@ module _ (E : ℕ → ℕ) (opening : Bool) where
         by : (b : Bool) → eqb (length s) 0 ≡ b → length (afterText E opening t s .out) ≡ length s
         by true e = let n = eqb-true (length s) 0 e in ap (λ (u : State). length (u .out)) (text-none t s n) ∙ ap length none ∙ sym n
         by false e =
-            let k : ℕ = pick (full (last s)) 2 3 in
+            let k : ℕ = cond (full (last s)) 2 3 in
             let some = eqb-false (length s) 0 e in
             ap (λ (u : State). length (u .out)) (text-some t s some)
             ∙ omega (arith, length-out k (textAt E opening s t (before s)) (last s), length-at (before s) (omega arith), last-length s)
@@ -113,7 +112,7 @@ module _ (E : ℕ → ℕ) where
         let l = last m in
         let u = sealedAt n in
         let c = output l (E (u .X)) in
-        let k : ℕ = pick (full l) 2 3 in
+        let k : ℕ = cond (full l) 2 3 in
         let q : afterText E false t m ≡ textBlock E false k u l = text-some E false t m some in
         let lu : length (u .out) ≡ 16 * n = length-at E false t none m n (omega arith) in
         let lc : length c ≡ length l = length-output l (E (u .X)) in
@@ -124,9 +123,9 @@ module _ (E : ℕ → ℕ) where
         ap (λ (z : State). afterText E true t (z .out)) q
         ∙ ap (afterText E true t) (block-out E false k u l)
         ∙ text-some E true t (u .out ++ c) nothing
-        ∙ ap₂ (λ (i : ℕ) (z : List ℕ). textBlock E true (pick (full z) 2 3) (textAt E true (u .out ++ c) t i) z)
+        ∙ ap₂ (λ (i : ℕ) (z : List ℕ). textBlock E true (cond (full z) 2 3) (textAt E true (u .out ++ c) t i) z)
         (before-append (u .out) c n lu low high) (last-append (u .out) c n lu low high)
-        ∙ ap₂ (λ (b : Bool) (z : State). textBlock E true (pick b 2 3) z c) (ap (λ (i : ℕ). eqb i 16) lc) (blocks-trip n c (omega arith))
+        ∙ ap₂ (λ (b : Bool) (z : State). textBlock E true (cond b 2 3) z c) (ap (λ (i : ℕ). eqb i 16) lc) (blocks-trip n c (omega arith))
         ∙ block-trip k u (take (16 * n) m) l
         ∙ ap₂ (λ (z : State) (o : List ℕ). record { X = z .X; Δ = z .Δ; out = o }) (sym q) (take-append-drop (16 * n) m)
 
@@ -141,7 +140,7 @@ module _ (E : ℕ → ℕ) where
 
 pub data-out : (E : ℕ → ℕ) (f : Fed) (a : List ℕ) → afterData E f a .out ≡ []
 unfolding afterData walk dataLast
-data-out E f a = pick-has (λ (t : State). t .out ≡ []) (empty a) refl refl
+data-out E f a = cond-has (λ (t : State). t .out ≡ []) (empty a) refl refl
 
 module _ (E : ℕ → ℕ) (nonce a : List ℕ) where
   begun-out : (n : ℕ) → begun E nonce a n .out ≡ []

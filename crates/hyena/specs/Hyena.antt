@@ -3,14 +3,13 @@
 -- opening. "All sums in this section are by exclusive or."
 -- Assumes nothing.
 use Prim.Native.Nat.{ℕ, _+_, _-_, _*_, _/_, _%_, _^_}
-use mathlib.Core.Bool.{Bool, false}
+use mathlib.Core.Bool.{Bool, false, cond}
 use mathlib.Core.List.{List, [], _++_}
 use lib.Bits.{bitXor}
 use lib.Dec.{eqb}
 use lib.ListN.{length, drop}
 use Rattle.words.specs.Block.{part}
 use Rattle.words.specs.Bytes.{number, bytes, pad, plus}
-use Rattle.words.specs.Pick.{pick}
 use Rattle.words.specs.Turns.{turns}
 
 -- "For a block S, SL is its upper 64 bits and SR its lower 64."
@@ -30,7 +29,7 @@ swapped x = joined (lower x) (upper x)
 
 -- "Doubling is in the field with x^64 + x^4 + x^3 + x + 1: shift left by one, and add 0x1B if the top bit was set."
 unfoldable pub double : ℕ → ℕ
-double x = bitXor (x * 2 % 2 ^ 64) (pick (eqb (x / 2 ^ 63) 1) 0x1B 0)
+double x = bitXor (x * 2 % 2 ^ 64) (cond (eqb (x / 2 ^ 63) 1) 0x1B 0)
 
 -- k times
 abbrev pub doubles : ℕ → ℕ → ℕ
@@ -71,7 +70,7 @@ unfoldable pub feedback : ℕ → ℕ → List ℕ → List ℕ → ℕ
 feedback y Δ m c = bitXor y (joined (upper (number (pad m))) (bitXor (lower (number (pad c))) Δ))
 
 unfoldable pub feed : Bool → ℕ → ℕ → List ℕ → ℕ
-feed opening y Δ d = feedback y Δ (pick opening (output d y) d) (pick opening d (output d y))
+feed opening y Δ d = feedback y Δ (cond opening (output d y) d) (cond opening d (output d y))
 
 -- ---- "Start: Y = E(nonce in the top 96 bits, then zeros, then b1, b0). b0 is 1 when the associated data is empty, b1 when text
 -- is empty too. In opening, ciphertext length stands for text length."
@@ -79,8 +78,8 @@ feed opening y Δ d = feedback y Δ (pick opening (output d y) d) (pick opening 
 -- of the nonce and the two lengths
 unfoldable pub startBlock : List ℕ → ℕ → ℕ → ℕ
 startBlock nonce a d =
-    let b0 : ℕ = pick (eqb a 0) 1 0 in
-    let b1 : ℕ = pick (eqb a 0) (pick (eqb d 0) 1 0) 0 in
+    let b0 : ℕ = cond (eqb a 0) 1 0 in
+    let b1 : ℕ = cond (eqb a 0) (cond (eqb d 0) 1 0) 0 in
     number nonce * 2 ^ 32 + (b1 * 2 + b0)
 
 -- ---- the states
@@ -113,7 +112,7 @@ module _ (E : ℕ → ℕ) where
   -- "If empty, double twice more and feed the block with value 1. Otherwise for each block but the last .. For the last: double
   -- once if full, twice if partial, then feed."
   unfoldable pub afterData : Fed → List ℕ → State
-  afterData f a = pick (empty a) (dataLast 2 f (bytes 16 1)) (walk dataEach (λ g d. dataLast (pick (full d) 1 2) g d) f a)
+  afterData f a = cond (empty a) (dataLast 2 f (bytes 16 1)) (walk dataEach (λ g d. dataLast (cond (full d) 1 2) g d) f a)
 
   -- ---- "Text, if not empty"
 
@@ -126,7 +125,7 @@ module _ (E : ℕ → ℕ) where
   -- feed."
   unfoldable pub afterText : Bool → State → List ℕ → State
   afterText opening t s =
-      pick (empty s) t (walk (textBlock opening 1) (λ u d. textBlock opening (pick (full d) 2 3) u d) t s)
+      cond (empty s) t (walk (textBlock opening 1) (λ u d. textBlock opening (cond (full d) 2 3) u d) t s)
 
   -- ---- all of it
 

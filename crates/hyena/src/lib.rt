@@ -1,4 +1,5 @@
 // HyENA: sealing a text with associated data, and opening it again, over a block cipher with its key.
+ghost use mathlib.Core.Bool.{cond};
 ghost use mathlib.Core.Path.{_≡_};
 ghost use Prim.Native.Nat.{_+_, _≤_, _<_};
 ghost use lib.Bits.{bitXor};
@@ -7,7 +8,6 @@ ghost use lib.ListN.{length, replicate};
 ghost use lib.Seq.{sets};
 ghost use Rattle.words.specs.Block.{value, halves, part};
 ghost use Rattle.words.specs.Bytes.{number, pad, over};
-ghost use Rattle.words.specs.Pick.{pick};
 ghost use Rattle.words.specs.Refuse.{answered};
 ghost use Rattle.hyena.specs.Hyena.{double, doubles, output, feed, startBlock, dataFirst, dataEach, dataLast, afterData, textBlock, afterText, swapped, outputs, tag};
 ghost use Rattle.hyena.specs.Entry.{gift, sealing, opening, shortData};
@@ -174,7 +174,7 @@ fn start(e: Keyed, nonce: &[u8], ad: usize, text: usize) -> Before
 
 // b1 and b0.
 fn marks(ad: usize, text: usize) -> u64
-    ensures { λ r. ⌜ (r ≡ pick (eqb ad 0) (pick (eqb text 0) 3 1) 0) × (r < 4) ⌝ }
+    ensures { λ r. ⌜ (r ≡ cond (eqb ad 0) (cond (eqb text 0) 3 1) 0) × (r < 4) ⌝ }
 {
     if ad != 0 {
         return 0;
@@ -307,7 +307,7 @@ fn fed(opening: bool, y: Block, mask: u64, d: Block, n: usize) -> Block
 }
 
 fn either(first: bool, a: Block, b: Block) -> Block
-    ensures { λ r. ⌜ r ≡ pick first a b ⌝ }
+    ensures { λ r. ⌜ r ≡ cond first a b ⌝ }
 {
     if first { a } else { b }
 }
@@ -324,7 +324,7 @@ fn padded(x: Block, n: usize) -> Block
 
 // a for a last block of n bytes that is full, b for one that is partial.
 fn if_full(n: usize, a: u64, b: u64) -> u64
-    ensures { λ r. ⌜ r ≡ pick (eqb n 16) a b ⌝ }
+    ensures { λ r. ⌜ r ≡ cond (eqb n 16) a b ⌝ }
 {
     if n == 16 { a } else { b }
 }

@@ -1,7 +1,7 @@
 -- LIONESS both ways: each undoes the other, over any stream that undoes itself and keeps lengths, and any hash at all.
 -- Assumes nothing.
 use mathlib.Core.Path.{_≡_, refl, _∙_}
-use mathlib.Core.Bool.{Bool, true, false}
+use mathlib.Core.Bool.{Bool, true, false, cond}
 use mathlib.Core.List.{List, _++_}
 use Prim.Native.Nat.{ℕ, _%_, _≤_}
 use native.Mathlib.Omega.{arith}
@@ -9,7 +9,6 @@ use lib.Dec.{eqb}
 use lib.ListN.{length, take, length-drop, length-append, take-append-drop}
 use lib.Seq.{take-at, drop-at, length-take-le}
 use Rattle.words.specs.Bytes.{plus}
-use Rattle.words.specs.Pick.{pick}
 use Rattle.words.proofs.Plus.{length-plus, plus-twice}
 use Rattle.lioness.specs.Lioness.{piece, left, right, streamStep, digestStep, step, steps}
 
@@ -23,7 +22,7 @@ module _ (S : List ℕ → List ℕ → List ℕ → List ℕ) (H : List ℕ →
   unfolding step streamStep digestStep
   length-step j b h = by (eqb (j % 2) 1)
     where
-      by : (t : Bool) → length (pick t (streamStep S H key iv j b) (digestStep S H key iv j b)) ≡ length b
+      by : (t : Bool) → length (cond t (streamStep S H key iv j b) (digestStep S H key iv j b)) ≡ length b
       by true = parts b (left b) (S (plus (left b) (piece 32 j key)) (piece 12 j iv) (right b)) h refl (keeps _ _ (right b))
       by false = parts b (plus (left b) _) (right b) h (length-plus (left b) _) refl
 
@@ -49,7 +48,7 @@ module _ (S : List ℕ → List ℕ → List ℕ → List ℕ) (H : List ℕ →
   unfolding step
   step-twice j b h = by (eqb (j % 2) 1)
     where
-      by : (t : Bool) → pick t (streamStep S H key iv j (pick t (streamStep S H key iv j b) (digestStep S H key iv j b))) (digestStep S H key iv j (pick t (streamStep S H key iv j b) (digestStep S H key iv j b))) ≡ b
+      by : (t : Bool) → cond t (streamStep S H key iv j (cond t (streamStep S H key iv j b) (digestStep S H key iv j b))) (digestStep S H key iv j (cond t (streamStep S H key iv j b) (digestStep S H key iv j b))) ≡ b
       by true = stream-twice j b h
       by false = digest-twice j b h
 

@@ -2,12 +2,12 @@
 -- (of key, nonce and text) and any hash H (of key and text). Blocks are lists of bytes. "Sums here are by exclusive or."
 -- Assumes nothing.
 use Prim.Native.Nat.{ℕ, _-_, _*_, _%_}
+use mathlib.Core.Bool.{cond}
 use mathlib.Core.List.{List, _++_}
 use lib.Dec.{eqb}
 use lib.ListN.{take, drop}
 use Rattle.words.specs.Block.{part}
 use Rattle.words.specs.Bytes.{plus}
-use Rattle.words.specs.Pick.{pick}
 
 -- "The key is k1 to k4 of 32 bytes, the iv is iv1 to iv4 of 12 bytes.": the j-th of n bytes
 unfoldable pub piece : ℕ → ℕ → List ℕ → List ℕ
@@ -31,7 +31,7 @@ module _ (S : List ℕ → List ℕ → List ℕ → List ℕ) (H : List ℕ →
 
   -- "3. As 1 with k3, iv3. 4. As 2 with k4, iv4."
   unfoldable pub step : ℕ → List ℕ → List ℕ
-  step j block = pick (eqb (j % 2) 1) (streamStep j block) (digestStep j block)
+  step j block = cond (eqb (j % 2) 1) (streamStep j block) (digestStep j block)
 
   -- four steps, a the first and d the last; "Deciphering runs 4, 3, 2, 1."
   unfoldable pub steps : ℕ → ℕ → ℕ → ℕ → List ℕ → List ℕ

@@ -1,10 +1,9 @@
 -- Answers: a promise that is an equation allows one result, and an answer is undone where the outputs are.
 -- Assumes nothing.
 use mathlib.Core.Path.{_≡_, refl, sym, ap, _∙_}
-use mathlib.Core.Bool.{Bool, true, false}
+use mathlib.Core.Bool.{Bool, true, false, cond}
 use mathlib.Core.List.{List, [], _∷_}
 use Prim.Native.Nat.{ℕ}
-use Rattle.words.specs.Pick.{pick}
 use Rattle.words.specs.Refuse.{Row, Answer, answered, refuse, answer}
 
 -- two results of one equation are equal
@@ -35,8 +34,8 @@ module _ {A : Type 0} (kept : A) (follows : Answer A) where
   refuse-given [] h = absurd (h refl)
   refuse-given (r ∷ rs) h = by (r .applies) h (refuse-given rs)
     where
-      by : (t : Bool) → (pick t (answered {A = ℕ} (r .number) 0) (answer rs 0 0) .number ≡ 0 → ⊥) → ((numberOf rs ≡ 0 → ⊥) → refuse rs kept follows ≡ answered (numberOf rs) kept)
-          → pick t (answered (r .number) kept) (refuse rs kept follows) ≡ answered (pick t (answered {A = ℕ} (r .number) 0) (answer rs 0 0) .number) kept
+      by : (t : Bool) → (cond t (answered {A = ℕ} (r .number) 0) (answer rs 0 0) .number ≡ 0 → ⊥) → ((numberOf rs ≡ 0 → ⊥) → refuse rs kept follows ≡ answered (numberOf rs) kept)
+          → cond t (answered (r .number) kept) (refuse rs kept follows) ≡ answered (cond t (answered {A = ℕ} (r .number) 0) (answer rs 0 0) .number) kept
       by true k rest = refl
       by false k rest = rest k
 
@@ -50,7 +49,7 @@ module _ {A : Type 0} (kept : A) (follows : Answer A) where
   refuse-done [] n e = (tt, e)
   refuse-done (r ∷ rs) n e = by (r .applies) e (refuse-done rs (n .1))
     where
-      by : (t : Bool) → pick t (answered (r .number) kept) (refuse rs kept follows) .number ≡ 0 → (refuse rs kept follows .number ≡ 0 → Clear rs × (follows .number ≡ 0))
+      by : (t : Bool) → cond t (answered (r .number) kept) (refuse rs kept follows) .number ≡ 0 → (refuse rs kept follows .number ≡ 0 → Clear rs × (follows .number ≡ 0))
           → ((t ≡ false) × Clear rs) × (follows .number ≡ 0)
       by true q rest = absurd (n .0 q)
       by false q rest = ((refl, rest q .0), rest q .1)
@@ -64,8 +63,8 @@ module _ {A : Type 0} (done kept : A) where
   answer-kept [] h = absurd (h refl)
   answer-kept (r ∷ rs) h = by (r .applies) h (answer-kept rs)
     where
-      by : (t : Bool) → (pick t (answered (r .number) kept) (answer rs done kept) .number ≡ 0 → ⊥) → ((answer rs done kept .number ≡ 0 → ⊥) → answer rs done kept .left ≡ kept)
-          → pick t (answered (r .number) kept) (answer rs done kept) .left ≡ kept
+      by : (t : Bool) → (cond t (answered (r .number) kept) (answer rs done kept) .number ≡ 0 → ⊥) → ((answer rs done kept .number ≡ 0 → ⊥) → answer rs done kept .left ≡ kept)
+          → cond t (answered (r .number) kept) (answer rs done kept) .left ≡ kept
       by true k rest = refl
       by false k rest = rest k
 
@@ -75,7 +74,7 @@ module _ {A : Type 0} (done kept : A) where
   left-keeps f (r ∷ rs) h = by (r .applies) h (left-keeps f rs)
     where
       by : (t : Bool) → ((t ≡ false) × Clear rs → f done ≡ f kept) → ((Clear rs → f done ≡ f kept) → f (answer rs done kept .left) ≡ f kept)
-          → f (pick t (record { number = r .number; left = kept }) (answer rs done kept) .left) ≡ f kept
+          → f (cond t (record { number = r .number; left = kept }) (answer rs done kept) .left) ≡ f kept
       by true k rest = refl
       by false k rest = rest (λ c. k (refl, c))
 

@@ -1,5 +1,4 @@
 -- The definitions that all contracts share.
-pub mod Pick
 pub mod Turns
 pub mod Square
 pub mod Digits

@@ -1,9 +1,8 @@
 -- What comes back: "Where several apply, the smallest number is given."
 -- Assumes nothing.
 use Prim.Native.Nat.{ℕ}
-use mathlib.Core.Bool.{Bool}
+use mathlib.Core.Bool.{Bool, cond}
 use mathlib.Core.List.{List, [], _∷_}
-use Rattle.words.specs.Pick.{pick}
 
 -- a line of the table: does it apply, and its number
 pub record Row : Type 0 where
@@ -23,7 +22,7 @@ answered n a = record { number = n; left = a }
 -- where none does, what follows
 abbrev pub refuse : {A : Type 0} → List Row → A → Answer A → Answer A
 refuse [] kept follows = follows
-refuse (r ∷ rs) kept follows = pick (r .applies) (answered (r .number) kept) (refuse rs kept follows)
+refuse (r ∷ rs) kept follows = cond (r .applies) (answered (r .number) kept) (refuse rs kept follows)
 
 -- the first that applies, with the memory as it was; where none does 0, and the outputs
 abbrev pub answer : {A : Type 0} → List Row → A → A → Answer A

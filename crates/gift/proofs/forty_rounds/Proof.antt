@@ -1,10 +1,10 @@
+use mathlib.Core.Bool.{cond}
 use Prim.Native.Nat.{ℕ, _-_, _≤_}
 use mathlib.Core.Path.{_≡_, refl, sym, ap, ap₂, _∙_}
 use native.Mathlib.Omega.{arith}
 use lib.ListN.{getD}
 use Rattle.words.specs.Block.{value, halves}
 use Rattle.words.specs.Digits.{tab}
-use Rattle.words.specs.Pick.{pick}
 use Rattle.words.proofs.Blocks.{value-is, halves-value}
 use Rattle.words.proofs.Turns.{turns-none, turns-next}
 use Rattle.gift.specs.Gift.{place, round, rounds, forty}
@@ -14,7 +14,7 @@ use Rattle.gift.proofs.forty_rounds.Tie as tie
 
 abbrev Inv-loop : tie.InvT-loop
 Inv-loop back places rs y₀ r₀ y r =
-    (r ≤ 40) × (y ≡ halves (rounds back (λ i. value (getD rs (pick back (39 - i) i) (halves 0))) r (value y₀)))
+    (r ≤ 40) × (y ≡ halves (rounds back (λ i. value (getD rs (cond back (39 - i) i) (halves 0))) r (value y₀)))
 
 abbrev μ-loop : tie.MeasureT-loop
 μ-loop back places rs y₀ r₀ y r = 40 - r
@@ -47,7 +47,7 @@ loop-again c =
     let d = c .before .before .before in
     let l = d .before .before .loop in
     let a = d .before .before .before .before .args in
-    let f : ℕ → ℕ = λ i. value (getD (a .a .rounds) (pick (a .back) (39 - i) i) (halves 0)) in (
+    let f : ℕ → ℕ = λ i. value (getD (a .a .rounds) (cond (a .back) (39 - i) i) (halves 0)) in (
       omega arith,
       c .round-of .ensures
           ∙ ap halves
@@ -61,7 +61,7 @@ returns c =
     let l = c .before .loop in
     let a = c .before .before .before .args in
     let e : l .r ≡ 40 = omega arith in
-    l .inv .1 ∙ ap (λ (n : ℕ). halves (rounds (a .back) (λ i. value (getD (a .a .rounds) (pick (a .back) (39 - i) i) (halves 0))) n (value (a .x)))) e
+    l .inv .1 ∙ ap (λ (n : ℕ). halves (rounds (a .back) (λ i. value (getD (a .a .rounds) (cond (a .back) (39 - i) i) (halves 0))) n (value (a .x)))) e
 
 pub forty-rounds-spec : {M : Type 1} → statement M
 forty-rounds-spec =
