@@ -1,7 +1,8 @@
 -- The part that is handed back: it lies within its book, and it is 16 bytes long exactly when the number is 0.
 -- Assumes nothing.
 use mathlib.Core.Path.{_≡_, refl, sym, ap, subst⁻¹, _∙_}
-use mathlib.Core.Bool.{Bool, true, false, cond, _&&_, _||_, and-eq-true-iff}
+use mathlib.Core.Logic.{_↔_}
+use mathlib.Core.Bool.{Bool, true, false, cond, _||_, and-eq-true-iff}
 use mathlib.Core.List.{List, []}
 use Prim.Native.Nat.{ℕ, _+_, _-_, _*_, _≤_}
 use native.Mathlib.Nat.{add-zero, add-comm, add-sub-cancel-left}
@@ -116,3 +117,10 @@ module _ (this last : Lent) (c : ℕ) where
   pub part-refused : (answer .number ≡ 0 → ⊥) → handedBack this last c .bytes ≡ []
   unfolding handedBack
   part-refused h = rw (ne-eqb (answer .number) 0 h)
+
+  pub part-exactly : (length (handedBack this last c .bytes) ≡ 16) ↔ (answer .number ≡ 0)
+  part-exactly = (λ l. by (eqb (answer .number) 0) (eqb-true (answer .number) 0) (λ e. ap length (part-refused (eqb-false (answer .number) 0 e))) l, part-found)
+    where
+      by : (t : Bool) → (t ≡ true → answer .number ≡ 0) → (t ≡ false → length (handedBack this last c .bytes) ≡ 0) → length (handedBack this last c .bytes) ≡ 16 → answer .number ≡ 0
+      by true d r l = d refl
+      by false d r l = absurd (omega (arith, r refl, l))

@@ -1,8 +1,8 @@
 -- The loops over a book's entries: each says of the entries that are left what the definition says of all.
 -- Assumes nothing.
-use mathlib.Core.Path.{_≡_, refl, sym, ap, _∙_}
-use mathlib.Core.Bool.{Bool, true, false, _&&_}
-use mathlib.Core.List.{List, [], _∷_}
+use mathlib.Core.Path.{_≡_, refl, sym, _∙_}
+use mathlib.Core.Bool.{Bool, true, false}
+use mathlib.Core.List.{List}
 use Prim.Native.Nat.{ℕ, zero, suc, _+_, _-_, _*_, _<_, _≤_}
 use native.Mathlib.Nat.{add-zero}
 use native.Mathlib.Omega.{arith}
@@ -12,7 +12,7 @@ use Rattle.words.specs.Block.{part}
 use Rattle.words.specs.Bytes.{number}
 use Rattle.words.specs.Digits.{tab}
 use Rattle.words.proofs.Lists.{tab-next}
-use Rattle.books.specs.Books.{count, class, rising, wellFormed, before, entry}
+use Rattle.books.specs.Books.{count, class, rising, wellFormed, placeOf, entry}
 
 -- ---- numbers that rise
 
@@ -47,19 +47,19 @@ module _ (book : List ℕ) {n : ℕ} (e : n ≡ number (part book 0 2)) where
 
 -- ---- the entry for a class
 
-module _ (f : ℕ → ℕ) (c n i : ℕ) {p : ℕ} (inv : i + before c (tab f i (n - i)) ≡ p) where
-  pub goes-on : i < n → (f i ≡ c → ⊥) → i + 1 + before c (tab f (i + 1) (n - (i + 1))) ≡ p
-  unfolding before
+module _ (f : ℕ → ℕ) (c n i : ℕ) {p : ℕ} (inv : i + placeOf c (tab f i (n - i)) ≡ p) where
+  pub goes-on : i < n → (f i ≡ c → ⊥) → i + 1 + placeOf c (tab f (i + 1) (n - (i + 1))) ≡ p
+  unfolding placeOf
   goes-on h k = sym (rw (tab-next f i n h, ne-eqb (f i) c k) (omega arith)) ∙ inv
 
   pub found : i < n → f i ≡ c → i ≡ p
-  unfolding before
+  unfolding placeOf
   found h k = sym (rw (tab-next f i n h, eq-eqb (f i) c k) (add-zero i)) ∙ inv
 
   pub ended : n ≤ i → i ≡ p
-  unfolding before tab
+  unfolding placeOf tab
   ended h = let e : n - i ≡ 0 = omega arith in sym (rw e (add-zero i)) ∙ inv
 
-pub entry-is : (c : ℕ) (book : List ℕ) {n : ℕ} → n ≡ number (part book 0 2) → before c (tab (class book) 0 n) ≡ entry c book
+pub entry-is : (c : ℕ) (book : List ℕ) {n : ℕ} → n ≡ number (part book 0 2) → placeOf c (tab (class book) 0 n) ≡ entry c book
 unfolding count
 entry-is c book e = rw e

@@ -35,14 +35,14 @@ rising (a ∷ b ∷ s) = ltb a b && rising (b ∷ s)
 unfoldable pub wellFormed : List ℕ → Bool
 wellFormed book = eqb (length book) (2 + 18 * count book) && rising (classes book)
 
--- how many numbers stand before the first that is c
-unfoldable pub before : ℕ → List ℕ → ℕ
-before c [] = 0
-before c (a ∷ s) = cond (eqb a c) 0 (suc (before c s))
+-- the place of the first number that is c; where none is, how many there are
+unfoldable pub placeOf : ℕ → List ℕ → ℕ
+placeOf c [] = 0
+placeOf c (a ∷ s) = cond (eqb a c) 0 (suc (placeOf c s))
 
--- the entry for a class; there is none where that many are not there
+-- "an entry for the class": which it is, and is there one
 abbrev pub entry : ℕ → List ℕ → ℕ
-entry c book = before c (classes book)
+entry c book = placeOf c (classes book)
 
 abbrev pub holds : ℕ → List ℕ → Bool
 holds c book = ltb (entry c book) (count book)

@@ -36,7 +36,7 @@ finding this last c = answer (refusals this last c) (placed this last c) nowhere
 
 -- ---- "The key handed back is that part of the book itself;"
 
--- memory that is lent: where it starts, and its bytes
+-- memory that is lent: where it starts, as the language has it (a block of memory and a place in that), and its bytes
 pub record Lent : Type 0 where
   pub start : ℕ × ℕ
   pub bytes : List ℕ

@@ -4,7 +4,7 @@ ghost use Prim.Native.Nat.{_<_, _≤_};
 ghost use Rattle.words.specs.Block.{part};
 ghost use Rattle.words.specs.Bytes.{number};
 ghost use Rattle.words.specs.Refuse.{answered};
-ghost use Rattle.books.specs.Books.{count, class, wellFormed, entry};
+ghost use Rattle.books.specs.Books.{class, wellFormed, entry};
 ghost use Rattle.books.specs.Entry.{finding, lent, handedBack};
 
 // Where a key lies: 0 or the refusal, the book (0 this term's, 1 last term's) and the place in it.

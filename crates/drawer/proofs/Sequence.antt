@@ -5,7 +5,7 @@ use mathlib.Core.Logic.{_⊎_, inl, inr, ⊎-elim}
 use mathlib.Core.Bool.{Bool, true, false, cond}
 use mathlib.Core.List.{List, [], _∷_}
 use Prim.Native.Nat.{ℕ, suc, _+_, _-_, _^_, _<_, _≤_, min}
-use native.Mathlib.Nat.{add-zero, add-suc, suc-add}
+use native.Mathlib.Nat.{add-zero}
 use native.Mathlib.Numerals.{add-one}
 use native.Mathlib.Omega.{arith}
 use borrow.Author.Tests.{eqb-true, eqb-false}
@@ -18,7 +18,7 @@ use Rattle.words.proofs.Bytes.{number-bytes}
 use Rattle.words.proofs.Lists.{tab-from, length-tab}
 use Rattle.drawer.specs.declared.Drawer.{Drawer}
 use Rattle.drawer.specs.Drawer.{Handed, started, nonce, moved, drawing, ivDrawing}
-use Rattle.drawer.specs.Sequence.{Use, forNonce, forIv, drawnFor, draws, after, handedOut}
+use Rattle.drawer.specs.Sequence.{Use, forNonce, forIv, draws, after, handedOut}
 
 -- the largest count
 abbrev top : ℕ

@@ -1,12 +1,11 @@
 -- What the code makes, from what its calls ensure.
 -- Assumes nothing.
-use mathlib.Core.Path.{_≡_, refl, sym, ap, subst⁻¹, _∙_}
+use mathlib.Core.Path.{_≡_, refl, ap, subst⁻¹, _∙_}
 use mathlib.Core.List.{List}
 use Prim.Native.Nat.{ℕ, _-_, _^_}
 use native.Mathlib.Omega.{arith}
 use lib.Dec.{eqb}
 use lib.ListN.{length, getD, replicate}
-use Rattle.words.specs.declared.Block.{Block}
 use Rattle.words.specs.Block.{value, part, stored}
 use Rattle.words.specs.Bytes.{bytes, plus, plusAt}
 use Rattle.words.specs.Digits.{tab}

@@ -3,7 +3,6 @@
 use mathlib.Core.Path.{_≡_, refl, sym, ap, ap₂, subst⁻¹, _∙_}
 use Prim.Native.Nat.{ℕ, _+_, _-_, _*_, _/_, _%_, _^_, _≤_, _<_}
 use native.Mathlib.Nat.{div-one}
-use native.Mathlib.Numerals.{add-one}
 use native.Mathlib.Omega.{arith}
 use lib.Bits.{bitXor}
 use lib.Dec.{lit≤}
@@ -11,8 +10,10 @@ use lib.Pow.{mod-pow-add, mod-mod-pow}
 use Rattle.words.specs.declared.Block.{Block}
 use Rattle.words.specs.Block.{value, halves}
 use Rattle.words.specs.Digits.{rotr}
+use Rattle.words.specs.Turns.{turns}
 use Rattle.words.proofs.Blocks.{whole, value-is}
 use Rattle.words.proofs.Rotation.{rotr-is, rotr-lt}
+use Rattle.words.proofs.Turns.{turns-next}
 use Rattle.gift.specs.Gift.{word, keyU, keyV, keyBits, stepConst, roundConst, constBits, keyStep, keyAt, added}
 use Rattle.gift.proofs.Fields.{field-low, from-high}
 
@@ -61,22 +62,14 @@ keyStep-is k a b h ea eb =
 
 -- ---- one turn of the loop over the rounds
 
-pub roundConst-next : (r : ℕ) → roundConst (r + 1) ≡ stepConst (roundConst r)
-unfolding roundConst
-roundConst-next r = ap roundConst (add-one r)
-
-keyAt-next : (k r : ℕ) → keyAt k (r + 1) ≡ keyStep (keyAt k r)
-unfolding keyAt
-keyAt-next k r = ap (keyAt k) (add-one r)
-
 -- the state goes on
 pub state-turn : (k r : ℕ) {s t : Block} → s ≡ halves (keyAt k r) → t ≡ halves (keyStep (value s)) → t ≡ halves (keyAt k (r + 1))
-state-turn k r es et = et ∙ ap halves (ap keyStep (value-is es) ∙ sym (keyAt-next k r))
+state-turn k r es et = et ∙ ap halves (turns-next (λ i. keyStep) r k (value-is es) refl)
 
 -- what is added
 pub added-turn : (k r : ℕ) {s u v w : Block} {c d : ℕ} → s ≡ halves (keyAt k r) → c ≡ roundConst r → d ≡ stepConst c
     → u ≡ halves (keyBits (value s)) → v ≡ halves (constBits d) → w ≡ halves (bitXor (value u) (value v)) → w ≡ halves (added k r)
-unfolding added roundConst
+unfolding added turns
 added-turn k r es ec ed eu ev ew =
     ew
     ∙ ap halves (ap₂ bitXor

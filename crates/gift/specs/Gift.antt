@@ -70,9 +70,8 @@ abbrev pub stepConst : ℕ → ℕ
 stepConst c = c * 2 % 2 ^ 6 + (bit 5 c + bit 4 c + 1) % 2
 
 -- after r steps
-unfoldable pub roundConst : ℕ → ℕ
-roundConst zero = 0
-roundConst (suc r) = stepConst (roundConst r)
+abbrev pub roundConst : ℕ → ℕ
+roundConst r = turns (λ i. stepConst) r 0
 
 -- "Bit 127 is flipped. The six-bit round constant c5..c0 is added to bits 23, 19, 15, 11, 7, 3."
 unfoldable pub constBits : ℕ → ℕ
@@ -84,9 +83,8 @@ unfoldable pub keyStep : ℕ → ℕ
 keyStep k = rotr 16 2 (word 1 k) * 2 ^ 112 + rotr 16 12 (word 0 k) * 2 ^ 96 + k / 2 ^ 32
 
 -- after r steps
-unfoldable pub keyAt : ℕ → ℕ → ℕ
-keyAt k zero = k
-keyAt k (suc r) = keyStep (keyAt k r)
+abbrev pub keyAt : ℕ → ℕ → ℕ
+keyAt k r = turns (λ i. keyStep) r k
 
 -- ---- the rounds
 

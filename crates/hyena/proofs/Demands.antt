@@ -9,7 +9,7 @@ use native.Mathlib.Omega.{arith}
 use borrow.Author.Tests.{eqb-true, not-false, eq-eqb, ne-eqb, le-ltb}
 use lib.ListN.{length, take, replicate}
 use Rattle.words.specs.Bytes.{Bytes, number, bytes, over}
-use Rattle.words.specs.Refuse.{Answer, answered, answer}
+use Rattle.words.specs.Refuse.{Answer, answered}
 use Rattle.words.proofs.Bytes.{length-bytes, bytes-bytes, number-bytes, number-inj}
 use Rattle.words.proofs.Over.{take-over}
 use Rattle.words.proofs.Refusals.{Clear, refuse-clear, refuse-done, done-clear}

@@ -6,6 +6,7 @@ use mathlib.Core.List.{List, [], _∷_}
 use Prim.Native.Nat.{ℕ}
 use lib.ListN.{replicate}
 use Rattle.words.specs.Bytes.{filled, pad}
+use Rattle.words.specs.Turns.{turns}
 use Rattle.gift.specs.Gift.{sbox, place, roundConst}
 use Rattle.hyena.specs.Hyena.{double}
 use Rattle.blake.specs.Blake.{parameter}
@@ -41,5 +42,5 @@ column f [] = []
 column f (c ∷ cs) = f c ∷ column f cs
 
 pub cards : column (λ c. c .given) table ≡ column (λ c. c .said) table
-unfolding table sbox place roundConst double filled parameter
+unfolding table sbox place turns double filled parameter
 cards = refl

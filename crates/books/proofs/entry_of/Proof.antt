@@ -3,14 +3,14 @@ use Prim.Native.Nat.{_+_, _-_, _≤_}
 use native.Mathlib.Nat.{zero-add, sub-zero}
 use native.Mathlib.Omega.{arith}
 use Rattle.words.specs.Digits.{tab}
-use Rattle.books.specs.Books.{class, before}
+use Rattle.books.specs.Books.{class, placeOf}
 use Rattle.books.proofs.Loops.{goes-on, found, ended, entry-is}
 use borrow.Author.Needs.{needs}
 use Rattle.books.proofs.entry_of.Statement.{statement}
 use Rattle.books.proofs.entry_of.Tie as tie
 
 abbrev Inv-loop : tie.InvT-loop
-Inv-loop book c n i₀ i = (i ≤ n) × (i + before c (tab (class book) i (n - i)) ≡ before c (tab (class book) 0 n))
+Inv-loop book c n i₀ i = (i ≤ n) × (i + placeOf c (tab (class book) i (n - i)) ≡ placeOf c (tab (class book) 0 n))
 
 abbrev μ-loop : tie.MeasureT-loop
 μ-loop book c n i₀ i = n - i

@@ -4,11 +4,13 @@ use native.Mathlib.Nat.{not-suc-le-zero}
 use native.Mathlib.Omega.{arith}
 use lib.ListN.{length, getD, length-set}
 use Rattle.words.specs.Block.{value, halves}
+use Rattle.words.specs.Turns.{turns}
 use Rattle.words.proofs.Blocks.{halves-value}
 use Rattle.words.proofs.Lists.{fill-turn, fill-end}
+use Rattle.words.proofs.Turns.{turns-next}
 use Rattle.gift.specs.Gift.{stepConst, roundConst, keyAt, added}
 use Rattle.gift.specs.Entry.{additions}
-use Rattle.gift.proofs.Keys.{roundConst-next, state-turn, added-turn}
+use Rattle.gift.proofs.Keys.{state-turn, added-turn}
 use Rattle.gift.proofs.additions_of.Statement.{statement}
 use Rattle.gift.proofs.additions_of.Tie as tie
 
@@ -21,7 +23,7 @@ abbrev μ-loop : tie.MeasureT-loop
 μ-loop out₀ state₀ c₀ i₀ out state c i = 40 - i
 
 loop-holds : tie.Need-loop-holds Inv-loop μ-loop
-unfolding roundConst keyAt
+unfolding turns
 loop-holds c = (omega arith, omega arith, refl, sym (halves-value (c .args .key) (omega arith)), refl, λ j h. absurd (not-suc-le-zero h))
 
 step-const-requires : tie.Need-step-const-requires Inv-loop μ-loop
@@ -59,7 +61,7 @@ loop-again c =
     let e : l .i < length (l .out) = omega arith in (
       omega arith,
       omega arith,
-      d .step-const .ensures .0 ∙ ap stepConst (l .inv .2) ∙ sym (roundConst-next (l .i)),
+      turns-next (λ j. stepConst) (l .i) 0 (l .inv .2) (d .step-const .ensures .0),
       state-turn k (l .i) (l .inv .3) (c .key-step .ensures),
       length-set (l .out) (l .i) (c .before .xor .result) ∙ l .inv .4,
       fill-turn (λ j. halves (added k j)) (halves 0) (l .out) (l .i) (c .before .xor .result) e (l .inv .5)
