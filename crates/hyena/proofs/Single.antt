@@ -3,13 +3,9 @@
 use mathlib.Core.Path.{_≡_}
 use mathlib.Core.List.{List}
 use Prim.Native.Nat.{ℕ}
-use Rattle.words.specs.declared.Block.{Block}
-use Rattle.words.specs.Block.{value, halves}
 use Rattle.words.specs.Refuse.{answered}
-use Rattle.words.proofs.Refusals.{same, same-answer}
-use Rattle.hyena.specs.declared.keyed.Keyed.{Keyed}
+use Rattle.words.proofs.Refusals.{same-answer}
 use Rattle.hyena.specs.Entry.{Sealed, sealing, opening, shortData}
-use Rattle.hyena.specs.Steps.{keyed, enciphers}
 
 pub seal-single : (key nonce ad text room tag : List ℕ) {m n : ℕ} {a b : Sealed} → answered m a ≡ sealing key nonce ad text room tag
     → answered n b ≡ sealing key nonce ad text room tag → (m ≡ n) × (a ≡ b)
@@ -26,9 +22,3 @@ seal-short-single key nonce text room tag = same-answer
 pub open-short-single : (key nonce text tag room : List ℕ) {m n : ℕ} {a b : List ℕ} → answered m a ≡ opening key nonce shortData text tag room
     → answered n b ≡ opening key nonce shortData text tag room → (m ≡ n) × (a ≡ b)
 open-short-single key nonce text tag room = same-answer
-
-pub keyed-of-single : (key : Block) {a b : Keyed} → a ≡ keyed (value key) → b ≡ keyed (value key) → a ≡ b
-keyed-of-single key = same
-
-pub block-single : (e : Keyed) (x : Block) {r s : Block} → r ≡ halves (enciphers e (value x)) → s ≡ halves (enciphers e (value x)) → r ≡ s
-block-single e x = same

@@ -5,11 +5,11 @@ ghost use Rattle.hyena.specs.Steps.{keyed, enciphers};
 use gift::Additions;
 use words::Block;
 
-pub struct Keyed {
-    pub additions: Additions,
+pub(crate) struct Keyed {
+    pub(crate) additions: Additions,
 }
 
-pub fn keyed_of(key: Block) -> Keyed
+pub(crate) fn keyed_of(key: Block) -> Keyed
     ensures { λ r. ⌜ r ≡ keyed (value key) ⌝ }
 {
     Keyed {
@@ -18,7 +18,7 @@ pub fn keyed_of(key: Block) -> Keyed
 }
 
 // E of x.
-pub fn block(e: Keyed, x: Block) -> Block
+pub(crate) fn block(e: Keyed, x: Block) -> Block
     ensures { λ r. ⌜ r ≡ halves (enciphers e (value x)) ⌝ }
 {
     gift::encipher_block(e.additions, x)
