@@ -12,7 +12,7 @@ use lib.Dec.{eqb}
 use lib.ListN.{length, take, drop}
 use Rattle.words.specs.Refuse.{Answer, answered}
 use Rattle.words.proofs.Lists.{length-part}
-use Rattle.words.proofs.Refusals.{Clear, done-clear, answer-kept, refuse-clear}
+use Rattle.words.proofs.Refusals.{Clear, answer-done, answer-kept}
 use Rattle.books.specs.declared.Found.{Found}
 use Rattle.books.specs.Books.{count, keyPlace, rising, classes, wellFormed, entry, holds}
 use Rattle.books.specs.Entry.{Place, refusals, nowhere, placed, finding, Lent, within, handedBack}
@@ -42,8 +42,8 @@ module _ (this last : List ℕ) (c : ℕ) where
   pub found-fits : finding this last c .number ≡ 0 → Fits this last (finding this last c .left)
   unfolding finding
   found-fits e =
-      let k = done-clear (placed this last c) nowhere (refusals this last c) (λ z. absurd (omega (arith, z)), (λ z. absurd (omega (arith, z)), tt)) e in
-      rw (refuse-clear nowhere (answered 0 (placed this last c)) (refusals this last c) k) (placed-fits k)
+      let d = answer-done (placed this last c) nowhere (refusals this last c) tt e in
+      subst⁻¹ (λ (a : Answer Place). Fits this last (a .left)) (d .1) (placed-fits (d .0))
 
   pub found-none : (finding this last c .number ≡ 0 → ⊥) → finding this last c .left ≡ nowhere
   unfolding finding

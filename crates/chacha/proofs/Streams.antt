@@ -12,7 +12,7 @@ use borrow.Author.Tests.{eqb-true, not-false, ltb-false, eq-eqb, le-ltb}
 use Rattle.words.specs.Block.{part}
 use Rattle.words.specs.Bytes.{plus, plusAt}
 use Rattle.words.specs.Refuse.{answered}
-use Rattle.words.proofs.Refusals.{Clear, done-clear, undone}
+use Rattle.words.proofs.Refusals.{Clear, answer-done, undone}
 use Rattle.words.proofs.Plus.{length-plus, plus-twice, plus-append, plusAt-first, plusAt-none, plusAt-append}
 use Rattle.chacha.specs.ChaCha.{block, blocks, startState, keyStream, stream}
 use Rattle.chacha.specs.Entry.{refusals, streaming}
@@ -98,8 +98,7 @@ streamed key nonce text counter e ek en ht hb = ap (answered 0) e ∙ sym (strea
 
 clear : (key nonce text : List ℕ) (counter : ℕ) → streaming key nonce counter text .number ≡ 0 → Clear (refusals key nonce counter text)
 unfolding streaming
-clear key nonce text counter =
-    done-clear (stream key nonce counter text) text (refusals key nonce counter text) ((λ e. omega arith), ((λ e. omega arith), ((λ e. omega arith), ((λ e. omega arith), tt))))
+clear key nonce text counter e = answer-done (stream key nonce counter text) text (refusals key nonce counter text) tt e .0
 
 -- a call that is done, cut after m whole blocks: both calls are done, and they leave the same bytes
 pub streaming-cut : (key nonce a b : List ℕ) (counter m : ℕ) → length a ≡ 64 * m → streaming key nonce counter (a ++ b) .number ≡ 0

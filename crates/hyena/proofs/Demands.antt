@@ -12,7 +12,7 @@ use Rattle.words.specs.Bytes.{Bytes, number, bytes, over}
 use Rattle.words.specs.Refuse.{Answer, answered}
 use Rattle.words.proofs.Bytes.{length-bytes, bytes-bytes, number-bytes, number-inj}
 use Rattle.words.proofs.Over.{take-over}
-use Rattle.words.proofs.Refusals.{Clear, refuse-clear, refuse-done, done-clear}
+use Rattle.words.proofs.Refusals.{Clear, refuse-done, answer-done}
 use Rattle.gift.specs.Gift.{decipher}
 use Rattle.gift.proofs.Inverse.{cipher-lt, decipher-encipher}
 use Rattle.hyena.specs.Demands.{Inverted, Alike}
@@ -21,7 +21,7 @@ use Rattle.hyena.specs.Entry.{gift, refusals, ciphertextOf, tagOf, Seale
 use Rattle.hyena.proofs.Trip.{length-outputs, round-trip}
 use Rattle.hyena.proofs.Bounds.{tag-lt}
 use Rattle.hyena.proofs.Differ.{same-tag}
-use Rattle.hyena.proofs.Entry.{numbered, tag-length, nonce-length, opening-by}
+use Rattle.hyena.proofs.Entry.{tag-length, nonce-length, opening-by}
 
 -- GIFT-128 is a block function with an inverse
 inverted : (key : List ℕ) → Inverted (gift key) (decipher (number key))
@@ -33,9 +33,8 @@ sealing-done : (key nonce ad text tag room : List ℕ) → sealing key nonce ad 
     → Clear (refusals key nonce ad text tag room) × (sealing key nonce ad text room tag .left ≡ record { room = over (ciphertextOf key nonce ad text) room; tag = tagOf key nonce ad text })
 unfolding sealing
 sealing-done key nonce ad text tag room e =
-    let rs = refusals key nonce ad text tag room in
-    let c = done-clear _ _ rs (numbered key nonce ad text tag room) e in
-    (c, ap (λ (a : Answer Sealed). a .left) (refuse-clear _ _ rs c))
+    let d = answer-done _ _ (refusals key nonce ad text tag room) tt e in
+    (d .0, ap (λ (a : Answer Sealed). a .left) (d .1))
 
 -- a ciphertext as long, a tag and room for the text are not refused either
 reclear : (key nonce ad text tag room : List ℕ) → Clear (refusals key nonce ad text tag room) → (c t room′ : List ℕ) → length c ≡ length text → length t ≡ 16
@@ -53,8 +52,8 @@ module _ (key nonce ad text tag room : List ℕ) (h : Bytes tag) where
   pub accepts : opening key nonce ad text tag room .number ≡ 0 → Clear (refusals key nonce ad text tag room) × (tag ≡ recomputed key nonce ad text)
   unfolding opening
   accepts e =
-      let p = refuse-done room _ (refusals key nonce ad text tag room) (numbered key nonce ad text tag room) e in
-      let q = refuse-done _ _ (wrongTag key nonce ad text tag) ((λ z. omega arith), tt) (p .1) in
+      let p = refuse-done room _ (refusals key nonce ad text tag room) tt e in
+      let q = refuse-done _ _ (wrongTag key nonce ad text tag) tt (p .1) in
       (p .0, same-number (p .0) (eqb-true _ _ (not-false _ (q .0 .0))))
 
   -- then the text comes out

@@ -4,7 +4,6 @@ use mathlib.Core.Path.{_≡_, sym, ap, ap₂, fun-ext, _∙_}
 use mathlib.Core.Bool.{Bool, true, false, cond}
 use mathlib.Core.List.{List}
 use Prim.Native.Nat.{ℕ, _^_, _≤_, _<_}
-use native.Mathlib.Omega.{arith}
 use borrow.Author.Tests.{eqb-true, not-false, ltb-false}
 use lib.Dec.{eqb}
 use lib.ListN.{length, replicate, length-replicate}
@@ -15,7 +14,7 @@ use Rattle.words.specs.Refuse.{Answer, answered, refuse}
 use Rattle.words.proofs.Blocks.{value-halves, value-is, value-lt, loaded-all, stored-all}
 use Rattle.words.proofs.Bytes.{number-bytes}
 use Rattle.words.proofs.Over.{over-over}
-use Rattle.words.proofs.Refusals.{Clear, Numbered, done-clear, numberOf, refuse-given, refuse-clear}
+use Rattle.words.proofs.Refusals.{Clear, answer-done, numberOf, refuse-given, refuse-clear}
 use Rattle.gift.specs.Gift.{encipher}
 use Rattle.gift.proofs.Entry.{enciphers-is}
 use Rattle.hyena.specs.declared.keyed.Keyed.{Keyed}
@@ -58,9 +57,6 @@ ran way key nonce a d room e {k} {r} {s} {t} {u} {room′} lk ek ee es et eu er 
 
 -- ---- refusals
 
-pub numbered : (key nonce ad text tag room : List ℕ) → Numbered (refusals key nonce ad text tag room)
-numbered key nonce ad text tag room = ((λ e. omega arith), ((λ e. omega arith), ((λ e. omega arith), ((λ e. omega arith), ((λ e. omega arith), ((λ e. omega arith), tt))))))
-
 module _ (key nonce ad text tag room : List ℕ) {r : ℕ} (er : answered r 0 ≡ refusal (length key) (length nonce) (length ad) (length text) (length tag) (length room)) where
   is-number : r ≡ numberOf (refusals key nonce ad text tag room)
   unfolding refusal
@@ -71,7 +67,7 @@ module _ (key nonce ad text tag room : List ℕ) {r : ℕ} (er : answered r 0 �
       ap (λ (n : ℕ). answered n kept) is-number ∙ sym (refuse-given kept follows (refusals key nonce ad text tag room) (λ e. h (is-number ∙ e)))
 
   pub clear : r ≡ 0 → Clear (refusals key nonce ad text tag room)
-  clear e = done-clear 0 0 (refusals key nonce ad text tag room) (numbered key nonce ad text tag room) (sym is-number ∙ e)
+  clear e = answer-done 0 0 (refusals key nonce ad text tag room) tt (sym is-number ∙ e) .0
 
 -- the lengths that are not refused
 module _ (key nonce ad text tag room : List ℕ) (c : Clear (refusals key nonce ad text tag room)) where
