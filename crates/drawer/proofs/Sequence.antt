@@ -83,7 +83,7 @@ module _ (u : Use) (us : List Use) (d : Drawer) where
         given u us d (g .1) .1 ∙ k .1,
       )
 
-pub counted : (us : List Use) (d : Drawer) → d .count ≤ top → Counted us d
+counted : (us : List Use) (d : Drawer) → d .count ≤ top → Counted us d
 unfolding tab draws after handedOut
 counted [] d h =
     let e : min 0 (top - d .count) ≡ 0 = omega arith in

@@ -24,7 +24,7 @@ nonce-is d b b′ e e′ =
     e′ ∙ stored-word b 4 8 (d .count) (omega arith)
     ∙ rw (e, stored-word (replicate 12 0) 0 4 (d .reader) (omega arith))
 
-pub length-nonce : (d : Drawer) → length (nonce d) ≡ 12
+length-nonce : (d : Drawer) → length (nonce d) ≡ 12
 unfolding nonce bytes
 length-nonce d = refl
 
