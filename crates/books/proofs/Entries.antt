@@ -1,13 +1,14 @@
 -- The entry that is found is the one for the class, and a well-formed book has no other.
 -- Assumes nothing.
-use mathlib.Core.Path.{_≡_, refl, sym, ap, subst, _∙_}
+use mathlib.Core.Path.{_≡_, sym, ap, subst, _∙_}
 use mathlib.Core.Logic.{⊎-elim}
-use mathlib.Core.Bool.{Bool, true, false, cond, and-eq-true-iff}
+use mathlib.Core.Bool.{true, and-eq-true-iff}
 use mathlib.Core.List.{List}
 use Prim.Native.Nat.{ℕ, zero, suc, _+_, _*_, _<_}
 use native.Mathlib.Nat.{add-zero, add-suc, suc-add, zero-add, lt-trans, ne-of-lt, eq-or-lt-of-le, not-suc-le-zero, le-of-suc-le-suc, zero-lt-suc}
+use native.Mathlib.Decide.{ℕ-discrete}
 use native.Mathlib.Omega.{arith}
-use borrow.Author.Tests.{eqb-true, ltb-true, eq-eqb, ne-eqb, lt-ltb}
+use borrow.Author.Tests.{ltb-true, eq-eqb, ne-eqb, lt-ltb}
 use lib.Dec.{eqb, ltb}
 use lib.ListN.{length}
 use Rattle.words.specs.Digits.{tab}
@@ -18,11 +19,14 @@ module _ (f : ℕ → ℕ) (c : ℕ) where
   found : (i n : ℕ) → placeOf c (tab f i n) < n → f (i + placeOf c (tab f i n)) ≡ c
   unfolding placeOf tab
   found i zero h = absurd (not-suc-le-zero h)
-  found i (suc n) h = by (eqb (f i) c) (eqb-true (f i) c) h (found (suc i) n)
-    where
-      by : (t : Bool) → (t ≡ true → f i ≡ c) → (let p = placeOf c (tab f (suc i) n) in cond t 0 (suc p) < suc n → (p < n → f (suc i + p) ≡ c) → f (i + cond t 0 (suc p)) ≡ c)
-      by true e l rest = ap f (add-zero i) ∙ e refl
-      by false e l rest = ap f (add-suc i (placeOf c (tab f (suc i) n)) ∙ sym (suc-add i (placeOf c (tab f (suc i) n)))) ∙ rest (le-of-suc-le-suc l)
+  found i (suc n) h =
+      elim (ℕ-discrete (f i) c) [
+        | yes e ↦ rw (eq-eqb (f i) c e, add-zero) e
+        | no k ↦
+            let p = placeOf c (tab f (suc i) n) in
+            let l : p < n = le-of-suc-le-suc (rw (ne-eqb (f i) c k) at h) in
+            rw (ne-eqb (f i) c k, add-suc, ← suc-add i p) (found (suc i) n l)
+      ]
 
   -- the first that is c is found
   first : (i n k : ℕ) → k < n → f (i + k) ≡ c → ((j : ℕ) → j < k → f (i + j) ≡ c → ⊥) → placeOf c (tab f i n) ≡ k

@@ -6,8 +6,9 @@ use mathlib.Core.Bool.{Bool, true, false, cond, _||_, and-eq-true-iff}
 use mathlib.Core.List.{List, []}
 use Prim.Native.Nat.{ℕ, _+_, _-_, _*_, _≤_}
 use native.Mathlib.Nat.{add-zero, add-comm, add-sub-cancel-left}
+use native.Mathlib.Decide.{ℕ-discrete}
 use native.Mathlib.Omega.{arith}
-use borrow.Author.Tests.{eqb-true, eqb-false, eq-eqb, ne-eqb, ltb-true, not-false}
+use borrow.Author.Tests.{eqb-true, eq-eqb, ne-eqb, ltb-true, not-false}
 use lib.Dec.{eqb}
 use lib.ListN.{length, take, drop}
 use Rattle.words.specs.Refuse.{Answer, answered}
@@ -103,24 +104,17 @@ module _ (this last : Lent) (c : ℕ) where
   pub part-found : answer .number ≡ 0 → length (handedBack this last c .bytes) ≡ 16
   unfolding handedBack
   part-found h =
+      let fit = found-fits (this .bytes) (last .bytes) c h in
       rw (eq-eqb (answer .number) 0 h)
-      (by (eqb (answer .left .book) 0) (λ t. fit .0 (eqb-true (answer .left .book) 0 t)) (λ t. fit .1 (eqb-false (answer .left .book) 0 t)))
-    where
-      fit : Fits (this .bytes) (last .bytes) (answer .left)
-      fit = found-fits (this .bytes) (last .bytes) c h
-
-      by : (t : Bool) → (t ≡ true → answer .left .at + 16 ≤ length (this .bytes)) → (t ≡ false → answer .left .at + 16 ≤ length (last .bytes))
-          → length (within (cond t this last) (answer .left .at) 16 .bytes) ≡ 16
-      by true f g = let h : answer .left .at + 16 ≤ length (this .bytes) = f refl in length-part (this .bytes) (answer .left .at) 16 (omega arith)
-      by false f g = let h : answer .left .at + 16 ≤ length (last .bytes) = g refl in length-part (last .bytes) (answer .left .at) 16 (omega arith)
+      (elim (ℕ-discrete (answer .left .book) 0) [
+        | yes b ↦ rw (eq-eqb (answer .left .book) 0 b) (length-part (this .bytes) (answer .left .at) 16 (omega (arith, fit .0 b)))
+        | no b ↦ rw (ne-eqb (answer .left .book) 0 b) (length-part (last .bytes) (answer .left .at) 16 (omega (arith, fit .1 b)))
+      ])
 
   pub part-refused : (answer .number ≡ 0 → ⊥) → handedBack this last c .bytes ≡ []
   unfolding handedBack
   part-refused h = rw (ne-eqb (answer .number) 0 h)
 
   pub part-exactly : (length (handedBack this last c .bytes) ≡ 16) ↔ (answer .number ≡ 0)
-  part-exactly = (λ l. by (eqb (answer .number) 0) (eqb-true (answer .number) 0) (λ e. ap length (part-refused (eqb-false (answer .number) 0 e))) l, part-found)
-    where
-      by : (t : Bool) → (t ≡ true → answer .number ≡ 0) → (t ≡ false → length (handedBack this last c .bytes) ≡ 0) → length (handedBack this last c .bytes) ≡ 16 → answer .number ≡ 0
-      by true d r l = d refl
-      by false d r l = absurd (omega (arith, r refl, l))
+  part-exactly =
+      (λ l. elim (ℕ-discrete (answer .number) 0) [ yes e ↦ e | no n ↦ absurd (omega (arith, l, ap length (part-refused n))) ], part-found)

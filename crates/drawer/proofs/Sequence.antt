@@ -2,14 +2,13 @@
 -- Assumes nothing.
 use mathlib.Core.Path.{_≡_, refl, sym, ap, _∙_}
 use mathlib.Core.Logic.{_⊎_, inl, inr, ⊎-elim}
-use mathlib.Core.Bool.{Bool, true, false, cond}
 use mathlib.Core.List.{List, [], _∷_}
 use Prim.Native.Nat.{ℕ, suc, _+_, _-_, _^_, _<_, _≤_, min}
 use native.Mathlib.Nat.{add-zero}
 use native.Mathlib.Numerals.{add-one}
+use native.Mathlib.Decide.{ℕ-discrete}
 use native.Mathlib.Omega.{arith}
-use borrow.Author.Tests.{eqb-true, eqb-false}
-use lib.Dec.{eqb}
+use borrow.Author.Tests.{eq-eqb, ne-eqb}
 use lib.ListN.{length, getD, drop, replicate}
 use Rattle.words.specs.Bytes.{number, bytes}
 use Rattle.words.specs.Digits.{tab}
@@ -40,11 +39,7 @@ Given d a = (d .count ≡ top → ⊥) × (a ≡ drawn d)
 -- each draw is one of the two
 either : (d : Drawer) → Refused d (drawing d) ⊎ Given d (drawing d)
 unfolding drawing
-either d = by (eqb (d .count) top) (eqb-true (d .count) top) (eqb-false (d .count) top)
-  where
-    by : (t : Bool) → (t ≡ true → d .count ≡ top) → (t ≡ false → d .count ≡ top → ⊥) → Refused d (cond t (spent d) (drawn d)) ⊎ Given d (cond t (spent d) (drawn d))
-    by true h k = inl (h refl, refl)
-    by false h k = inr (k refl, refl)
+either d = elim (ℕ-discrete (d .count) top) [ yes e ↦ inl (e, rw (eq-eqb (d .count) top e)) | no n ↦ inr (n, rw (ne-eqb (d .count) top n)) ]
 
 -- the first of several draws, of either use
 module _ (u : Use) (us : List Use) (d : Drawer) where

@@ -4,13 +4,14 @@ use mathlib.Core.Path.{_≡_, refl, sym, ap, ap₂, subst, _∙_}
 use mathlib.Core.Bool.{Bool, true, false, cond}
 use mathlib.Core.List.{List, [], _∷_}
 use Prim.Native.Nat.{ℕ, zero, suc, _+_, _-_, _*_, _/_, _%_, _^_, _≤_, _<_}
+use native.Mathlib.Decide.{ℕ-discrete}
 use native.Mathlib.Omega.{arith}
 use lib.Bits.{bitXor, bitOr, xor-self, xor-lt, or-lt, or-mod}
 use lib.Dec.{eqb}
 use lib.ListN.{length, take, drop, set, replicate, length-drop, length-replicate, replicate-append-replicate}
 use lib.Pow.{high, low as low-digits}
 use lib.Seq.{sets, take-all}
-use borrow.Author.Tests.{eq-eqb, ne-eqb, eqb-true, eqb-false}
+use borrow.Author.Tests.{eq-eqb, ne-eqb}
 use Rattle.words.specs.declared.Block.{Block}
 use Rattle.words.specs.Block.{value, halves, part, loaded, loadedPad, stored}
 use Rattle.words.specs.Bytes.{Bytes, number, bytes, pad, over}
@@ -261,11 +262,11 @@ module _ (a b : Block) (fa : (a .lo < 2 ^ 64) × (a .hi < 2 ^ 64)) (fb : (b .lo 
 
   pub same-is : eqb (folded (bitOr (bitXor (a .lo) (b .lo)) (bitXor (a .hi) (b .hi)))) 0 ≡ eqb (value a) (value b)
   unfolding differing
-  same-is = by (eqb (folded differing) 0) refl
-    where
-      by : (t : Bool) → eqb (folded differing) 0 ≡ t → eqb (folded differing) 0 ≡ eqb (value a) (value b)
-      by true e = e ∙ sym (eq-eqb (value a) (value b) (equal (eqb-true (folded differing) 0 e)))
-      by false e = e ∙ sym (ne-eqb (value a) (value b) (λ q. eqb-false (folded differing) 0 e (none-differs q)))
+  same-is =
+      elim (ℕ-discrete (value a) (value b)) [
+        | yes q ↦ eq-eqb (folded differing) 0 (none-differs q) ∙ sym (eq-eqb (value a) (value b) q)
+        | no n ↦ ne-eqb (folded differing) 0 (λ e. n (equal e)) ∙ sym (ne-eqb (value a) (value b) n)
+      ]
 
 pub wipe-turn : (room₀ room : List ℕ) (i : ℕ) → i < length room₀ → room ≡ over (replicate i 0) room₀ → set room i 0 ≡ over (replicate (i + 1) 0) room₀
 wipe-turn room₀ room i h e =

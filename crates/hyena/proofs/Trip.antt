@@ -5,8 +5,9 @@ use mathlib.Core.Bool.{Bool, true, false, cond}
 use mathlib.Core.List.{List, [], _++_, append-assoc}
 use Prim.Native.Nat.{ℕ, zero, suc, _+_, _-_, _*_, _≤_, _<_}
 use native.Mathlib.Nat.{mul-suc}
+use native.Mathlib.Decide.{ℕ-discrete}
 use native.Mathlib.Omega.{arith}
-use borrow.Author.Tests.{eqb-true, eqb-false, eq-eqb, ne-eqb}
+use borrow.Author.Tests.{eq-eqb, ne-eqb}
 use lib.Dec.{eqb}
 use lib.ListN.{length, take, length-append, take-append-drop}
 use lib.Seq.{take-all, take-at, drop-at, take-add}
@@ -51,15 +52,14 @@ module _ (E : ℕ → ℕ) (opening : Bool) where
     length-at (suc i) h = omega (arith, length-out 1 (textAt E opening s t i) (blockAt s i), length-at i (omega arith), block-length s i h)
 
     pub length-text : length (afterText E opening t s .out) ≡ length s
-    length-text = by (eqb (length s) 0) refl
-      where
-        by : (b : Bool) → eqb (length s) 0 ≡ b → length (afterText E opening t s .out) ≡ length s
-        by true e = let n = eqb-true (length s) 0 e in ap (λ (u : State). length (u .out)) (text-none t s n) ∙ ap length none ∙ sym n
-        by false e =
-            let k : ℕ = cond (full (last s)) 2 3 in
-            let some = eqb-false (length s) 0 e in
-            ap (λ (u : State). length (u .out)) (text-some t s some)
-            ∙ omega (arith, length-out k (textAt E opening s t (before s)) (last s), length-at (before s) (omega arith), last-length s)
+    length-text =
+        elim (ℕ-discrete (length s) 0) [
+          | yes n ↦ ap (λ (u : State). length (u .out)) (text-none t s n) ∙ ap length none ∙ sym n
+          | no n ↦
+              let k : ℕ = cond (full (last s)) 2 3 in
+              ap (λ (u : State). length (u .out)) (text-some t s n)
+              ∙ omega (arith, length-out k (textAt E opening s t (before s)) (last s), length-at (before s) (omega arith), last-length s)
+        ]
 
 -- ---- opening undoes sealing
 
@@ -130,11 +130,7 @@ module _ (E : ℕ → ℕ) where
         ∙ ap₂ (λ (z : State) (o : List ℕ). record { X = z .X; Δ = z .Δ; out = o }) (sym q) (take-append-drop (16 * n) m)
 
     text-trip : afterText E true t (afterText E false t m .out) ≡ opened (afterText E false t m)
-    text-trip = by (eqb (length m) 0) refl
-      where
-        by : (b : Bool) → eqb (length m) 0 ≡ b → afterText E true t (afterText E false t m .out) ≡ opened (afterText E false t m)
-        by true e = none-trip (eqb-true (length m) 0 e)
-        by false e = some-trip (eqb-false (length m) 0 e)
+    text-trip = elim (ℕ-discrete (length m) 0) [ yes n ↦ none-trip n | no n ↦ some-trip n ]
 
 -- ---- all of it
 

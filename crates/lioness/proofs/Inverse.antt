@@ -10,6 +10,7 @@ use lib.ListN.{length, take, length-drop, length-append, take-append-drop}
 use lib.Seq.{take-at, drop-at, length-take-le}
 use Rattle.words.specs.Bytes.{plus}
 use Rattle.words.proofs.Plus.{length-plus, plus-twice}
+use Rattle.words.proofs.Tests.{cond-has}
 use Rattle.lioness.specs.Lioness.{piece, left, right, streamStep, digestStep, step, steps}
 
 module _ (S : List ℕ → List ℕ → List ℕ → List ℕ) (H : List ℕ → List ℕ → List ℕ)
@@ -20,11 +21,10 @@ module _ (S : List ℕ → List ℕ → List ℕ → List ℕ) (H : List ℕ →
 
   length-step : (j : ℕ) (b : List ℕ) → 32 ≤ length b → length (step S H key iv j b) ≡ length b
   unfolding step streamStep digestStep
-  length-step j b h = by (eqb (j % 2) 1)
-    where
-      by : (t : Bool) → length (cond t (streamStep S H key iv j b) (digestStep S H key iv j b)) ≡ length b
-      by true = parts b (left b) (S (plus (left b) (piece 32 j key)) (piece 12 j iv) (right b)) h refl (keeps _ _ (right b))
-      by false = parts b (plus (left b) _) (right b) h (length-plus (left b) _) refl
+  length-step j b h =
+      cond-has (λ (x : List ℕ). length x ≡ length b) (eqb (j % 2) 1)
+      (parts b (left b) (S (plus (left b) (piece 32 j key)) (piece 12 j iv) (right b)) h refl (keeps _ _ (right b)))
+      (parts b (plus (left b) _) (right b) h (length-plus (left b) _) refl)
 
   -- a step undoes itself
   stream-twice : (j : ℕ) (b : List ℕ) → 32 ≤ length b → streamStep S H key iv j (streamStep S H key iv j b) ≡ b
