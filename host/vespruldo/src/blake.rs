@@ -1,17 +1,7 @@
 //! BLAKE2b with a key.
 
+use crate::archive::vespruldo_blake2b;
 use crate::refusal::{outcome, Refusal};
-
-extern "C" {
-    fn vespruldo_blake2b(
-        key: *const u8,
-        key_len: usize,
-        text: *const u8,
-        text_len: usize,
-        digest: *mut u8,
-        digest_len: usize,
-    ) -> u32;
-}
 
 /// What may be refused.
 const PROMISED: [Refusal; 3] = [Refusal::KeyLength, Refusal::TextLength, Refusal::RoomLength];

@@ -1,25 +1,7 @@
 //! The lookup in two key books.
 
+use crate::archive::{vespruldo_key_find, Found};
 use crate::refusal::{outcome, Refusal};
-
-/// What the archive answers: the document's number, the book, 0 for this term's
-/// and 1 for last term's, and the key's place in it.
-#[repr(C)]
-struct Found {
-    number: u32,
-    book: u32,
-    offset: usize,
-}
-
-extern "C" {
-    fn vespruldo_key_find(
-        this_term: *const u8,
-        this_term_len: usize,
-        last_term: *const u8,
-        last_term_len: usize,
-        class: u16,
-    ) -> Found;
-}
 
 /// What may be refused.
 const PROMISED: [Refusal; 2] = [Refusal::BookForm, Refusal::ClassMissing];

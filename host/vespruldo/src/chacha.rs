@@ -1,18 +1,7 @@
 //! ChaCha20 as a key stream.
 
+use crate::archive::vespruldo_chacha20;
 use crate::refusal::{outcome, Refusal};
-
-extern "C" {
-    fn vespruldo_chacha20(
-        key: *const u8,
-        key_len: usize,
-        nonce: *const u8,
-        nonce_len: usize,
-        start: u32,
-        text: *mut u8,
-        text_len: usize,
-    ) -> u32;
-}
 
 /// What may be refused.
 const PROMISED: [Refusal; 4] = [

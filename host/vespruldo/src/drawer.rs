@@ -1,21 +1,9 @@
 //! The drawer of nonces.
 
+use crate::archive::{
+    self, vespruldo_drawer_draw, vespruldo_drawer_iv, vespruldo_drawer_start, Drawn,
+};
 use crate::refusal::{outcome, Refusal};
-
-/// What a draw of the archive answers: the document's number, the bytes, and
-/// the drawer that is handed back.
-#[repr(C)]
-struct Drawn<const N: usize> {
-    number: u32,
-    bytes: [u8; N],
-    next: Drawer,
-}
-
-extern "C" {
-    fn vespruldo_drawer_start(reader: u32, count: u64) -> Drawer;
-    fn vespruldo_drawer_draw(drawer: Drawer) -> Drawn<12>;
-    fn vespruldo_drawer_iv(drawer: Drawer) -> Drawn<48>;
-}
 
 /// A drawer of nonces: a reader number and a count, both given at its start.
 /// Each draw hands out the two in 12 bytes, and the count grows by one. What is
@@ -64,12 +52,8 @@ extern "C" {
 /// assert_ne!(Drawer::start(7, newer).draw()?, nonce);
 /// # Ok::<(), vespruldo::Refusal>(())
 /// ```
-#[repr(C)]
 #[derive(Debug, PartialEq, Eq)]
-pub struct Drawer {
-    reader: u32,
-    count: u64,
-}
+pub struct Drawer(archive::Drawer);
 
 impl Drawer {
     /// The drawer with this reader number and this count. Readers that share a
@@ -78,7 +62,7 @@ impl Drawer {
     #[must_use]
     pub fn start(reader: u32, count: u64) -> Drawer {
         // SAFETY: see the crate's root.
-        unsafe { vespruldo_drawer_start(reader, count) }
+        Drawer(unsafe { vespruldo_drawer_start(reader, count) })
     }
 
     /// Draws 12 bytes, a nonce: reader number, then count, both little-endian.
@@ -136,7 +120,7 @@ impl Drawer {
     /// The reader number.
     #[must_use]
     pub fn reader(&self) -> u32 {
-        self.reader
+        self.0.reader
     }
 
     /// The count of the next draw. Written down after a draw and before the
@@ -144,19 +128,18 @@ impl Drawer {
     /// then never drawn again.
     #[must_use]
     pub fn count(&self) -> u64 {
-        self.count
+        self.0.count
     }
 
     /// Hands the drawer to `draw` and, unless that refuses, takes the one handed
     /// back in its place.
     fn hand_over<const N: usize>(
         &mut self,
-        draw: impl FnOnce(Drawer) -> Drawn<N>,
+        draw: impl FnOnce(archive::Drawer) -> Drawn<N>,
     ) -> Result<[u8; N], Refusal> {
-        let Drawer { reader, count } = *self;
-        let drawn = draw(Drawer { reader, count });
+        let drawn = draw(self.0);
         outcome(drawn.number, &[Refusal::DrawerSpent])?;
-        *self = drawn.next;
+        self.0 = drawn.next;
         Ok(drawn.bytes)
     }
 }
@@ -165,19 +148,24 @@ impl Drawer {
 mod tests {
     use super::*;
 
-    /// What a made-up draw with this number leaves of the drawer 1, 2.
+    const BEFORE: archive::Drawer = archive::Drawer {
+        reader: 1,
+        count: 2,
+    };
+    const NEXT: archive::Drawer = archive::Drawer {
+        reader: 5,
+        count: 6,
+    };
+
+    /// What a made-up draw with this number answers, and leaves of a drawer.
     fn after(number: u32) -> (Result<[u8; 2], Refusal>, Drawer) {
-        let (reader, count) = (1, 2);
-        let mut drawer = Drawer { reader, count };
+        let mut drawer = Drawer(BEFORE);
         let drawn = drawer.hand_over(|handed| {
-            assert_eq!(handed, Drawer { reader, count });
+            assert_eq!(handed, BEFORE);
             Drawn {
                 number,
                 bytes: [3, 4],
-                next: Drawer {
-                    reader: 5,
-                    count: 6,
-                },
+                next: NEXT,
             }
         });
         (drawn, drawer)
@@ -185,9 +173,8 @@ mod tests {
 
     #[test]
     fn drawer_handed_back_is_taken_unless_the_draw_is_refused() {
-        let [before, next] = [(1, 2), (5, 6)].map(|(reader, count)| Drawer { reader, count });
-        assert_eq!(after(0), (Ok([3, 4]), next));
-        assert_eq!(after(9), (Err(Refusal::DrawerSpent), before));
+        assert_eq!(after(0), (Ok([3, 4]), Drawer(NEXT)));
+        assert_eq!(after(9), (Err(Refusal::DrawerSpent), Drawer(BEFORE)));
     }
 
     #[test]

@@ -1,26 +1,12 @@
 //! GIFT-128 on one block.
 
+use crate::archive::{vespruldo_gift_decipher, vespruldo_gift_encipher};
 use crate::refusal::{outcome, Refusal};
-
-extern "C" {
-    fn vespruldo_gift_encipher(
-        key: *const u8,
-        key_len: usize,
-        block: *mut u8,
-        block_len: usize,
-    ) -> u32;
-    fn vespruldo_gift_decipher(
-        key: *const u8,
-        key_len: usize,
-        block: *mut u8,
-        block_len: usize,
-    ) -> u32;
-}
 
 /// What may be refused.
 const PROMISED: [Refusal; 2] = [Refusal::KeyLength, Refusal::TextLength];
 
-/// Either of the archive's functions above.
+/// Either of the archive's two functions.
 type OneWay = unsafe extern "C" fn(*const u8, usize, *mut u8, usize) -> u32;
 
 fn call(one_way: OneWay, key: &[u8], block: &mut [u8]) -> Result<(), Refusal> {

@@ -1,61 +1,7 @@
 //! HyENA, sealing and opening.
 
+use crate::archive::{vespruldo_open, vespruldo_open_short, vespruldo_seal, vespruldo_seal_short};
 use crate::refusal::{outcome, Refusal};
-
-extern "C" {
-    fn vespruldo_seal(
-        key: *const u8,
-        key_len: usize,
-        nonce: *const u8,
-        nonce_len: usize,
-        data: *const u8,
-        data_len: usize,
-        text: *const u8,
-        text_len: usize,
-        room: *mut u8,
-        room_len: usize,
-        tag: *mut u8,
-        tag_len: usize,
-    ) -> u32;
-    fn vespruldo_open(
-        key: *const u8,
-        key_len: usize,
-        nonce: *const u8,
-        nonce_len: usize,
-        data: *const u8,
-        data_len: usize,
-        ciphertext: *const u8,
-        ciphertext_len: usize,
-        tag: *const u8,
-        tag_len: usize,
-        room: *mut u8,
-        room_len: usize,
-    ) -> u32;
-    fn vespruldo_seal_short(
-        key: *const u8,
-        key_len: usize,
-        nonce: *const u8,
-        nonce_len: usize,
-        text: *const u8,
-        text_len: usize,
-        room: *mut u8,
-        room_len: usize,
-        tag: *mut u8,
-        tag_len: usize,
-    ) -> u32;
-    fn vespruldo_open_short(
-        key: *const u8,
-        key_len: usize,
-        nonce: *const u8,
-        nonce_len: usize,
-        ciphertext: *const u8,
-        ciphertext_len: usize,
-        tag: *const u8,
-        tag_len: usize,
-        room: *mut u8,
-        room_len: usize,
-    ) -> u32;
-}
 
 /// What opening may refuse; sealing, all but the last.
 const PROMISED: [Refusal; 7] = [

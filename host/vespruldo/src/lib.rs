@@ -46,6 +46,8 @@
 // that are more than a number, go by value in the layout that C gives them;
 // they hold numbers and bytes alone, of which every value is allowed.
 
+#[doc(hidden)]
+pub mod archive;
 mod blake;
 mod books;
 mod chacha;

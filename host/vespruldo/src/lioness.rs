@@ -1,25 +1,7 @@
 //! LIONESS on a wide block.
 
+use crate::archive::{vespruldo_lioness_decipher, vespruldo_lioness_encipher};
 use crate::refusal::{outcome, Refusal};
-
-extern "C" {
-    fn vespruldo_lioness_encipher(
-        key: *const u8,
-        key_len: usize,
-        iv: *const u8,
-        iv_len: usize,
-        block: *mut u8,
-        block_len: usize,
-    ) -> u32;
-    fn vespruldo_lioness_decipher(
-        key: *const u8,
-        key_len: usize,
-        iv: *const u8,
-        iv_len: usize,
-        block: *mut u8,
-        block_len: usize,
-    ) -> u32;
-}
 
 /// What may be refused.
 const PROMISED: [Refusal; 3] = [
@@ -28,7 +10,7 @@ const PROMISED: [Refusal; 3] = [
     Refusal::TextLength,
 ];
 
-/// Either of the archive's functions above.
+/// Either of the archive's two functions.
 type OneWay = unsafe extern "C" fn(*const u8, usize, *const u8, usize, *mut u8, usize) -> u32;
 
 fn call(one_way: OneWay, key: &[u8], iv: &[u8], block: &mut [u8]) -> Result<(), Refusal> {

@@ -7,27 +7,9 @@ use std::collections::BTreeSet;
 use common::{number, up_to, with_flip, Guarded};
 use second::books::{self, Found};
 use second::random::Random;
-
-/// The archive's function itself. The safe one does not show what is answered
-/// beside a refusal.
-mod raw {
-    #[repr(C)]
-    pub struct Found {
-        pub number: u32,
-        pub book: u32,
-        pub offset: usize,
-    }
-
-    extern "C" {
-        pub fn vespruldo_key_find(
-            this_term: *const u8,
-            this_term_len: usize,
-            last_term: *const u8,
-            last_term_len: usize,
-            class: u16,
-        ) -> Found;
-    }
-}
+// The archive's function itself: the safe one does not show what is answered
+// beside a refusal.
+use vespruldo::archive;
 
 /// This term's book and last term's.
 type Books<'a> = [&'a [u8]; 2];
@@ -38,12 +20,12 @@ const EMPTY: [u8; 2] = [0, 0];
 /// What the archive answers.
 fn raw_find([this, last]: Books, class: u16) -> Found {
     // SAFETY: both books are lent for the whole call and only read.
-    let raw::Found {
+    let archive::Found {
         number,
         book,
         offset,
     } = unsafe {
-        raw::vespruldo_key_find(this.as_ptr(), this.len(), last.as_ptr(), last.len(), class)
+        archive::vespruldo_key_find(this.as_ptr(), this.len(), last.as_ptr(), last.len(), class)
     };
     Found {
         number,

@@ -7,38 +7,10 @@ use std::collections::BTreeSet;
 use common::{number, up_to};
 use second::drawer;
 use second::random::Random;
+// The archive's functions themselves: the safe ones show neither the bytes that
+// a refused draw answers nor the drawer that it hands back.
+use vespruldo::archive;
 use vespruldo::{Drawer, Refusal};
-
-/// The archive's functions themselves. The safe ones show neither the bytes that
-/// a refused draw answers nor the drawer that it hands back.
-mod raw {
-    #[repr(C)]
-    #[derive(Clone, Copy)]
-    pub struct Drawer {
-        pub reader: u32,
-        pub count: u64,
-    }
-
-    #[repr(C)]
-    pub struct Draw {
-        pub number: u32,
-        pub bytes: [u8; 12],
-        pub next: Drawer,
-    }
-
-    #[repr(C)]
-    pub struct Iv {
-        pub number: u32,
-        pub bytes: [u8; 48],
-        pub next: Drawer,
-    }
-
-    extern "C" {
-        pub fn vespruldo_drawer_start(reader: u32, count: u64) -> Drawer;
-        pub fn vespruldo_drawer_draw(drawer: Drawer) -> Draw;
-        pub fn vespruldo_drawer_iv(drawer: Drawer) -> Iv;
-    }
-}
 
 /// What is taken from a drawer: a draw or an iv.
 #[derive(Clone, Copy, Debug)]
@@ -62,14 +34,14 @@ impl Taken {
     fn raw(self, reader: u32, count: u64) -> Answer {
         // SAFETY: drawers and answers go by value, and every drawer is allowed.
         let (number, bytes, next) = unsafe {
-            let drawer = raw::vespruldo_drawer_start(reader, count);
+            let drawer = archive::vespruldo_drawer_start(reader, count);
             match self {
                 Taken::Draw => {
-                    let drawn = raw::vespruldo_drawer_draw(drawer);
+                    let drawn = archive::vespruldo_drawer_draw(drawer);
                     (drawn.number, drawn.bytes.to_vec(), drawn.next)
                 }
                 Taken::Iv => {
-                    let drawn = raw::vespruldo_drawer_iv(drawer);
+                    let drawn = archive::vespruldo_drawer_iv(drawer);
                     (drawn.number, drawn.bytes.to_vec(), drawn.next)
                 }
             }
@@ -121,7 +93,7 @@ impl Taken {
 /// The drawer at its start, which holds what it was given.
 fn start(reader: u32, count: u64) -> Drawer {
     // SAFETY: numbers and drawers go by value, and all of them are allowed.
-    let raw = unsafe { raw::vespruldo_drawer_start(reader, count) };
+    let raw = unsafe { archive::vespruldo_drawer_start(reader, count) };
     assert_eq!((raw.reader, raw.count), (reader, count));
     let drawer = Drawer::start(reader, count);
     assert_eq!((drawer.reader(), drawer.count()), (reader, count));

@@ -1,0 +1,141 @@
+//! The archive's functions as it exports them, and what they answer beside a
+//! number. The safe functions of this crate are what to call; these are public
+//! for the tests, which look at what a refusal answers.
+
+/// A drawer: its reader number and its count.
+#[repr(C)]
+#[derive(Clone, Copy, Debug, PartialEq, Eq)]
+pub struct Drawer {
+    pub reader: u32,
+    pub count: u64,
+}
+
+/// What a draw, or an iv, answers: the document's number, the bytes, and the
+/// drawer that is handed back.
+#[repr(C)]
+#[derive(Clone, Copy, Debug, PartialEq, Eq)]
+pub struct Drawn<const N: usize> {
+    pub number: u32,
+    pub bytes: [u8; N],
+    pub next: Drawer,
+}
+
+/// What a lookup answers: the document's number, the book, 0 for this term's and
+/// 1 for last term's, and the key's place in it.
+#[repr(C)]
+#[derive(Clone, Copy, Debug, PartialEq, Eq)]
+pub struct Found {
+    pub number: u32,
+    pub book: u32,
+    pub offset: usize,
+}
+
+extern "C" {
+    pub fn vespruldo_seal(
+        key: *const u8,
+        key_len: usize,
+        nonce: *const u8,
+        nonce_len: usize,
+        data: *const u8,
+        data_len: usize,
+        text: *const u8,
+        text_len: usize,
+        room: *mut u8,
+        room_len: usize,
+        tag: *mut u8,
+        tag_len: usize,
+    ) -> u32;
+    pub fn vespruldo_open(
+        key: *const u8,
+        key_len: usize,
+        nonce: *const u8,
+        nonce_len: usize,
+        data: *const u8,
+        data_len: usize,
+        ciphertext: *const u8,
+        ciphertext_len: usize,
+        tag: *const u8,
+        tag_len: usize,
+        room: *mut u8,
+        room_len: usize,
+    ) -> u32;
+    pub fn vespruldo_seal_short(
+        key: *const u8,
+        key_len: usize,
+        nonce: *const u8,
+        nonce_len: usize,
+        text: *const u8,
+        text_len: usize,
+        room: *mut u8,
+        room_len: usize,
+        tag: *mut u8,
+        tag_len: usize,
+    ) -> u32;
+    pub fn vespruldo_open_short(
+        key: *const u8,
+        key_len: usize,
+        nonce: *const u8,
+        nonce_len: usize,
+        ciphertext: *const u8,
+        ciphertext_len: usize,
+        tag: *const u8,
+        tag_len: usize,
+        room: *mut u8,
+        room_len: usize,
+    ) -> u32;
+    pub fn vespruldo_gift_encipher(
+        key: *const u8,
+        key_len: usize,
+        block: *mut u8,
+        block_len: usize,
+    ) -> u32;
+    pub fn vespruldo_gift_decipher(
+        key: *const u8,
+        key_len: usize,
+        block: *mut u8,
+        block_len: usize,
+    ) -> u32;
+    pub fn vespruldo_chacha20(
+        key: *const u8,
+        key_len: usize,
+        nonce: *const u8,
+        nonce_len: usize,
+        start: u32,
+        text: *mut u8,
+        text_len: usize,
+    ) -> u32;
+    pub fn vespruldo_blake2b(
+        key: *const u8,
+        key_len: usize,
+        text: *const u8,
+        text_len: usize,
+        digest: *mut u8,
+        digest_len: usize,
+    ) -> u32;
+    pub fn vespruldo_lioness_encipher(
+        key: *const u8,
+        key_len: usize,
+        iv: *const u8,
+        iv_len: usize,
+        block: *mut u8,
+        block_len: usize,
+    ) -> u32;
+    pub fn vespruldo_lioness_decipher(
+        key: *const u8,
+        key_len: usize,
+        iv: *const u8,
+        iv_len: usize,
+        block: *mut u8,
+        block_len: usize,
+    ) -> u32;
+    pub fn vespruldo_drawer_start(reader: u32, count: u64) -> Drawer;
+    pub fn vespruldo_drawer_draw(drawer: Drawer) -> Drawn<12>;
+    pub fn vespruldo_drawer_iv(drawer: Drawer) -> Drawn<48>;
+    pub fn vespruldo_key_find(
+        this_term: *const u8,
+        this_term_len: usize,
+        last_term: *const u8,
+        last_term_len: usize,
+        class: u16,
+    ) -> Found;
+}
