@@ -1,53 +1,66 @@
 -- What is found, from what the calls ensure.
 -- Assumes nothing.
-use mathlib.Core.Path.{_≡_, ap}
-use mathlib.Core.Bool.{true, false}
+use mathlib.Core.Path.{_≡_, refl, sym, ap, ap₂, _∙_}
+use mathlib.Core.Bool.{Bool, true, false, cond, not, _||_}
 use mathlib.Core.List.{List}
-use Prim.Native.Nat.{ℕ, _<_, _≤_}
+use Prim.Native.Nat.{ℕ}
 use native.Mathlib.Omega.{arith}
-use borrow.Author.Tests.{lt-ltb, le-ltb}
+use lib.Dec.{ltb}
 use Rattle.words.specs.Block.{part}
 use Rattle.words.specs.Bytes.{number}
-use Rattle.words.specs.Refuse.{answered}
+use Rattle.words.specs.Refuse.{Answer, answered}
 use Rattle.books.specs.declared.Found.{Found}
 use Rattle.books.specs.Books.{count, keyPlace, wellFormed, entry, holds}
-use Rattle.books.specs.Entry.{Place, finding}
+use Rattle.books.specs.Entry.{Place, nowhere, finding}
 
--- an answer as a struct
-pub as-found : {f g : Found} → f ≡ g → answered (f .number) (record { book = f .book; at = f .at }) ≡ answered {A = Place} (g .number) (record { book = g .book; at = g .at })
-as-found e = ap (λ (f : Found). answered {A = Place} (f .number) (record { book = f .book; at = f .at })) e
+-- a struct as an answer
+abbrev pub told : Found → Answer Place
+told f = answered (f .number) (record { book = f .book; at = f .at })
 
--- an entry that is there
-pub holds-is : (c : ℕ) (book : List ℕ) {i n : ℕ} → i ≡ entry c book → n ≡ number (part book 0 2) → i < n → holds c book ≡ true
+-- whether there is an entry, by its place and the count
+pub holds-is : (c : ℕ) (book : List ℕ) {i n : ℕ} → i ≡ entry c book → n ≡ number (part book 0 2) → holds c book ≡ ltb i n
 unfolding count
-holds-is c book ei en h = lt-ltb (entry c book) (number (part book 0 2)) (omega (arith, ei, en, h))
+holds-is c book ei en = ap₂ ltb (sym ei) (sym en)
 
-pub lacks-is : (c : ℕ) (book : List ℕ) {i n : ℕ} → i ≡ entry c book → n ≡ number (part book 0 2) → n ≤ i → holds c book ≡ false
-unfolding count
-lacks-is c book ei en h = le-ltb (entry c book) (number (part book 0 2)) (omega (arith, ei, en, h))
+-- the first of two searches gives the answer, or the second does
+first-done : (t : Bool) (a : Place) (g : Answer Place) {f : Answer Place} → f ≡ cond t (answered 0 a) (answered 11 nowhere) → f .number ≡ 0 → f ≡ cond t (answered 0 a) g
+first-done true a g e z = e
+first-done false a g e z = absurd (omega (arith, ap (λ (x : Answer Place). x .number) e, z))
+
+first-missed : (t : Bool) (a : Place) (g : Answer Place) {f : Answer Place} → f ≡ cond t (answered 0 a) (answered 11 nowhere) → (f .number ≡ 0 → ⊥) → g ≡ cond t (answered 0 a) g
+first-missed true a g e n = absurd (n (ap (λ (x : Answer Place). x .number) e))
+first-missed false a g e n = refl
 
 module _ (this last : List ℕ) (c : ℕ) where
-  abbrev Finds : ℕ → ℕ → ℕ → Type 0
-  Finds n b i = answered n (record { book = b; at = i }) ≡ finding this last c
-
-  pub bad-this : wellFormed this ≡ false → Finds 10 0 0
+  pub bad-this : wellFormed this ≡ false → answered 10 nowhere ≡ finding this last c
   unfolding finding
   bad-this e = rw e
 
   module _ (w : wellFormed this ≡ true) where
-    pub bad-last : wellFormed last ≡ false → Finds 10 0 0
+    pub bad-last : wellFormed last ≡ false → answered 10 nowhere ≡ finding this last c
     unfolding finding
     bad-last e = rw (w, e)
 
     module _ (v : wellFormed last ≡ true) where
-      pub in-this : holds c this ≡ true → {i : ℕ} → i ≡ entry c this → Finds 0 0 (keyPlace i)
-      unfolding finding
-      in-this h e = rw (w, v, h, e)
+      -- the key of one book, and where it is not there, of the other
+      abbrev keyAt : ℕ → List ℕ → Place
+      keyAt b book = record { book = b; at = keyPlace (entry c book) }
 
-      pub in-last : holds c this ≡ false → holds c last ≡ true → {i : ℕ} → i ≡ entry c last → Finds 0 1 (keyPlace i)
-      unfolding finding
-      in-last h k e = rw (w, v, h, k, e)
+      abbrev keyIn : ℕ → List ℕ → Answer Place → Answer Place
+      keyIn b book other = cond (holds c book) (answered 0 (keyAt b book)) other
 
-      pub in-neither : holds c this ≡ false → holds c last ≡ false → Finds 11 0 0
+      searched : keyIn 0 this (keyIn 1 last (answered 11 nowhere)) ≡ finding this last c
       unfolding finding
-      in-neither h k = rw (w, v, h, k)
+      searched = rw (w, v) (by (holds c this) (holds c last) _ _)
+        where
+          by : (t u : Bool) (a b : Place) → cond t (answered 0 a) (cond u (answered 0 b) (answered 11 nowhere)) ≡ cond (not (t || u)) (answered 11 nowhere) (answered 0 (cond t a b))
+          by true u a b = refl
+          by false true a b = refl
+          by false false a b = refl
+
+      module _ {f : Answer Place} (e : f ≡ keyIn 0 this (answered 11 nowhere)) where
+        pub in-this : f .number ≡ 0 → f ≡ finding this last c
+        in-this z = first-done (holds c this) (keyAt 0 this) (keyIn 1 last (answered 11 nowhere)) e z ∙ searched
+
+        pub in-last : (f .number ≡ 0 → ⊥) → {g : Answer Place} → g ≡ keyIn 1 last (answered 11 nowhere) → g ≡ finding this last c
+        in-last n {g} q = first-missed (holds c this) (keyAt 0 this) g e n ∙ ap (keyIn 0 this) q ∙ searched

@@ -1,11 +1,13 @@
 // Key books: the key of a class, in this term's book or else in last term's.
 ghost use mathlib.Core.Path.{_≡_};
-ghost use Prim.Native.Nat.{_<_, _≤_};
+ghost use mathlib.Core.Bool.{cond};
+ghost use Prim.Native.Nat.{_≤_};
+ghost use lib.Dec.{eqb};
 ghost use Rattle.words.specs.Block.{part};
 ghost use Rattle.words.specs.Bytes.{number};
 ghost use Rattle.words.specs.Refuse.{answered};
-ghost use Rattle.books.specs.Books.{class, wellFormed, entry};
-ghost use Rattle.books.specs.Entry.{finding, lent, handedBack};
+ghost use Rattle.books.specs.Books.{class, keyPlace, wellFormed, entry, holds};
+ghost use Rattle.books.specs.Entry.{nowhere, finding, lent, handedBack};
 
 // Where a key lies: 0 or the refusal, the book (0 this term's, 1 last term's) and the place in it.
 #[repr(C)]
@@ -28,14 +30,22 @@ pub fn part<'a>(this: &'a [u8], last: &'a [u8], class: u16) -> &'a [u8]
     ensures { λ r. ⌜ lent r ≡ handedBack (lent (this .entry)) (lent (last .entry)) class ⌝ }
 {
     let f = find(this, last, class);
+    let book = book_of(f.book, this, last);
     let at = f.at;
-    if f.number != 0 {
-        return &this[..0];
-    }
-    if f.book == 0 {
-        return &this[at..at + 16];
-    }
-    &last[at..at + 16]
+    let end = at + length_of(f.number);
+    &book[at..end]
+}
+
+fn book_of<'a>(which: u32, this: &'a [u8], last: &'a [u8]) -> &'a [u8]
+    ensures { λ r. ⌜ lent r ≡ cond (eqb which 0) (lent (this .entry)) (lent (last .entry)) ⌝ }
+{
+    if which == 0 { this } else { last }
+}
+
+fn length_of(number: u32) -> usize
+    ensures { λ r. ⌜ r ≡ cond (eqb number 0) 16 0 ⌝ }
+{
+    if number == 0 { 16 } else { 0 }
 }
 
 // Both books are judged before either is searched.
@@ -48,20 +58,24 @@ pub fn find(this: &[u8], last: &[u8], class: u16) -> Found
     if !well_formed(last) {
         return nowhere(10);
     }
-    let i = entry_of(this, class);
-    if i < number_at(this, 0) {
-        return Found {
-            number: 0,
-            book: 0,
-            at: 2 + 18 * i + 2,
-        };
+    let f = key_in(0, this, class);
+    if f.number == 0 {
+        return f;
     }
-    let j = entry_of(last, class);
-    if j < number_at(last, 0) {
+    key_in(1, last, class)
+}
+
+// The key of the class in one book.
+fn key_in(which: u32, book: &[u8], class: u16) -> Found
+    ensures { λ r. ⌜ answered (r .number) (record { book = r .book; at = r .at })
+        ≡ cond (holds class (now (book .entry))) (answered 0 (record { book = which; at = keyPlace (entry class (now (book .entry))) })) (answered 11 nowhere) ⌝ }
+{
+    let i = entry_of(book, class);
+    if i < number_at(book, 0) {
         return Found {
             number: 0,
-            book: 1,
-            at: 2 + 18 * j + 2,
+            book: which,
+            at: 2 + 18 * i + 2,
         };
     }
     nowhere(11)

@@ -42,9 +42,7 @@ fn nonce(d: Drawer) -> Drawer {
     let drawn = drawer::draw(d);
     let bytes = drawn.bytes;
     let next = drawn.next;
-    put_number(drawn.number as u64);
-    put_bytes(&bytes);
-    put_drawer(next);
+    put_drawn(drawn.number, &bytes, next);
     next
 }
 
@@ -52,10 +50,14 @@ fn iv(d: Drawer) -> Drawer {
     let drawn = drawer::iv(d);
     let bytes = drawn.bytes;
     let next = drawn.next;
-    put_number(drawn.number as u64);
-    put_bytes(&bytes);
-    put_drawer(next);
+    put_drawn(drawn.number, &bytes, next);
     next
+}
+
+fn put_drawn(number: u32, bytes: &[u8], next: Drawer) {
+    put_number(number as u64);
+    put_bytes(bytes);
+    put_drawer(next);
 }
 
 fn put_drawer(d: Drawer) {

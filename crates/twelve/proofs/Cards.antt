@@ -2,7 +2,7 @@
 -- Assumes nothing.
 use mathlib.Core.Path.{_≡_, refl}
 use mathlib.Core.Bool.{false}
-use mathlib.Core.List.{List, [], _∷_}
+use mathlib.Core.List.{List, [], _∷_, map}
 use Prim.Native.Nat.{ℕ}
 use lib.ListN.{replicate}
 use Rattle.words.specs.Bytes.{filled, pad}
@@ -36,11 +36,6 @@ table =
     ∷ one (parameter 44 64) 0x01012C40
     ∷ []
 
--- one column of it
-abbrev pub column : (Card → List ℕ) → List Card → List (List ℕ)
-column f [] = []
-column f (c ∷ cs) = f c ∷ column f cs
-
-pub cards : column (λ c. c .given) table ≡ column (λ c. c .said) table
+pub cards : map (λ c. c .given) table ≡ map (λ c. c .said) table
 unfolding table sbox place turns double filled parameter
 cards = refl

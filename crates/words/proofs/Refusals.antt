@@ -93,10 +93,13 @@ module _ {A : Type 0} (done kept : A) (rows : List Row) where
   pub answer-done : T (numbered rows) → answer rows done kept .number ≡ 0 → Clear rows × (answer rows done kept ≡ answered 0 done)
   answer-done n e = let c = refuse-done kept (answered 0 done) rows n e .0 in (c, refuse-clear kept (answered 0 done) rows c)
 
-  -- a refusal keeps the memory
-  pub answer-kept : (answer rows done kept .number ≡ 0 → ⊥) → answer rows done kept .left ≡ kept
-  answer-kept h =
-      ⊎-elim (λ (c : Clear rows). absurd (h (ap number (refuse-clear kept (answered 0 done) rows c)))) (λ (g : Given rows). ap left (g .is kept (answered 0 done))) (clear-or-given rows)
+  -- what the outputs have with 0, and the memory as it was with any other number, an answer has
+  pub answer-has : (P : Answer A → Type 0) → T (numbered rows) → (Clear rows → P (answered 0 done)) → ((n : ℕ) → (n ≡ 0 → ⊥) → P (answered n kept))
+      → P (answer rows done kept)
+  answer-has P n hd hk =
+      ⊎-elim (λ (c : Clear rows). subst⁻¹ P (refuse-clear kept (answered 0 done) rows c) (hd c))
+      (λ (g : Given rows). subst⁻¹ P (g .is kept (answered 0 done)) (hk (g .row) (g .some n)))
+      (clear-or-given rows)
 
 -- an entry point that works in place on memory x, and one that undoes it
 module _ {A : Type 0} (rows : A → List Row) (there back : A → A) (x : A) where

@@ -25,6 +25,16 @@ const BOTH: [Taken; 2] = [Taken::Draw, Taken::Iv];
 /// handed back.
 type Answer = (u32, Vec<u8>, u32, u64);
 
+fn raw_answer<const N: usize>(drawn: archive::Drawn<N>) -> Answer {
+    let archive::Drawer { reader, count } = drawn.next;
+    (drawn.number, drawn.bytes.to_vec(), reader, count)
+}
+
+fn seconds_answer<const N: usize>(drawn: drawer::Draw<N>) -> Answer {
+    let drawer::Drawer { reader, count } = drawn.next;
+    (drawn.number, drawn.bytes.to_vec(), reader, count)
+}
+
 impl Taken {
     fn random(random: &mut Random) -> Taken {
         BOTH[up_to(random, 1)]
@@ -33,36 +43,22 @@ impl Taken {
     /// What the archive answers.
     fn raw(self, reader: u32, count: u64) -> Answer {
         // SAFETY: drawers and answers go by value, and every drawer is allowed.
-        let (number, bytes, next) = unsafe {
+        unsafe {
             let drawer = archive::vespruldo_drawer_start(reader, count);
             match self {
-                Taken::Draw => {
-                    let drawn = archive::vespruldo_drawer_draw(drawer);
-                    (drawn.number, drawn.bytes.to_vec(), drawn.next)
-                }
-                Taken::Iv => {
-                    let drawn = archive::vespruldo_drawer_iv(drawer);
-                    (drawn.number, drawn.bytes.to_vec(), drawn.next)
-                }
+                Taken::Draw => raw_answer(archive::vespruldo_drawer_draw(drawer)),
+                Taken::Iv => raw_answer(archive::vespruldo_drawer_iv(drawer)),
             }
-        };
-        (number, bytes, next.reader, next.count)
+        }
     }
 
     /// What the second implementation answers.
     fn seconds(self, reader: u32, count: u64) -> Answer {
         let drawer = drawer::start(reader, count);
-        let (number, bytes, next) = match self {
-            Taken::Draw => {
-                let drawn = drawer::draw(drawer);
-                (drawn.number, drawn.bytes.to_vec(), drawn.next)
-            }
-            Taken::Iv => {
-                let drawn = drawer::iv(drawer);
-                (drawn.number, drawn.bytes.to_vec(), drawn.next)
-            }
-        };
-        (number, bytes, next.reader, next.count)
+        match self {
+            Taken::Draw => seconds_answer(drawer::draw(drawer)),
+            Taken::Iv => seconds_answer(drawer::iv(drawer)),
+        }
     }
 
     /// What the safe function answers.
