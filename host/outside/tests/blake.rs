@@ -11,7 +11,7 @@ fn compare(random: &mut Random, key_len: usize, text_len: usize, room_len: usize
     let [mut ours, mut seconds, mut b2s, mut sodiums] = [(); 4].map(|()| room.clone());
     let case = format!("key {key_len}, text {text_len}, room {room_len}");
 
-    assert_eq!(vespruldo::blake2b(&key, &text, &mut ours), Ok(()));
+    assert_eq!(vespruldo::slices::blake2b(&key, &text, &mut ours), Ok(()));
     assert_eq!(second::blake::digest(&key, &text, &mut seconds), 0);
     b2::blake2b(&key, &text, &mut b2s);
     if sodium::takes(key_len, room_len) {

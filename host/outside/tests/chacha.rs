@@ -13,7 +13,10 @@ fn compare(random: &mut Random, start: u32, text_len: usize) {
     let text = random.bytes(text_len);
 
     let [mut ours, mut seconds, mut sodiums, mut openssls] = [(); 4].map(|()| text.clone());
-    assert_eq!(vespruldo::chacha20(&key, &nonce, start, &mut ours), Ok(()));
+    assert_eq!(
+        vespruldo::slices::chacha20(&key, &nonce, start, &mut ours),
+        Ok(())
+    );
     assert_eq!(second::chacha::stream(&key, &nonce, start, &mut seconds), 0);
     sodium::chacha20(&key, &nonce, start, &mut sodiums);
     openssl::chacha20(&key, &nonce, start, &mut openssls);

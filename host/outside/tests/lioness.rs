@@ -30,13 +30,13 @@ struct Direction {
 const DIRECTIONS: [Direction; 2] = [
     Direction {
         name: "encipher",
-        ours: vespruldo::lioness_encipher,
+        ours: vespruldo::slices::lioness_encipher,
         seconds: lioness::encipher,
         rebuilt: |key, iv, block| encipher_over(stream, hash, key, iv, block),
     },
     Direction {
         name: "decipher",
-        ours: vespruldo::lioness_decipher,
+        ours: vespruldo::slices::lioness_decipher,
         seconds: lioness::decipher,
         rebuilt: |key, iv, block| decipher_over(stream, hash, key, iv, block),
     },

@@ -109,7 +109,8 @@ fn main() {
         time_versions(
             text.len(),
             &mut || {
-                let sealed = vespruldo::seal(&key, &nonce, &data, text, &mut room, &mut tag);
+                let sealed =
+                    vespruldo::slices::seal(&key, &nonce, &data, text, &mut room, &mut tag);
                 assert_eq!(sealed, Ok(()));
             },
             &mut || {
@@ -127,7 +128,8 @@ fn main() {
         time_versions(
             text.len(),
             &mut || {
-                let opened = vespruldo::open(&key, &nonce, &data, ciphertext, tag, &mut room);
+                let opened =
+                    vespruldo::slices::open(&key, &nonce, &data, ciphertext, tag, &mut room);
                 assert_eq!(opened, Ok(()));
             },
             &mut || {

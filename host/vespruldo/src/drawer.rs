@@ -27,10 +27,10 @@ use crate::refusal::{outcome, Refusal};
 /// let (mut ciphertext, mut tag) = ([0; 4], [0; 16]);
 /// for text in [b"Anna", b"Bert"] {
 ///     let nonce = drawer.draw()?;
-///     vespruldo::seal(&key, &nonce, b"class 7", text, &mut ciphertext, &mut tag)?;
+///     vespruldo::slices::seal(&key, &nonce, b"class 7", text, &mut ciphertext, &mut tag)?;
 ///
 ///     let mut opened = [0; 4];
-///     vespruldo::open(&key, &nonce, b"class 7", &ciphertext, &tag, &mut opened)?;
+///     vespruldo::slices::open(&key, &nonce, b"class 7", &ciphertext, &tag, &mut opened)?;
 ///     assert_eq!(opened, *text);
 /// }
 /// assert_eq!(drawer.count(), 2);
@@ -105,7 +105,7 @@ impl Drawer {
     /// assert_eq!(drawer.count(), 1);
     ///
     /// let mut block = *b"A wide block has more than 32 bytes.";
-    /// vespruldo::lioness_encipher(&[1; 128], &iv, &mut block)?;
+    /// vespruldo::slices::lioness_encipher(&[1; 128], &iv, &mut block)?;
     /// # Ok::<(), vespruldo::Refusal>(())
     /// ```
     ///

@@ -9,10 +9,10 @@
 //! ```
 //! let (key, nonce) = ([1; 16], [2; 12]);
 //! let (mut ciphertext, mut tag) = ([0; 5], [0; 16]);
-//! vespruldo::seal(&key, &nonce, b"class 7", b"hello", &mut ciphertext, &mut tag)?;
+//! vespruldo::slices::seal(&key, &nonce, b"class 7", b"hello", &mut ciphertext, &mut tag)?;
 //!
 //! let mut text = [0; 5];
-//! vespruldo::open(&key, &nonce, b"class 7", &ciphertext, &tag, &mut text)?;
+//! vespruldo::slices::open(&key, &nonce, b"class 7", &ciphertext, &tag, &mut text)?;
 //! assert_eq!(text, *b"hello");
 //! # Ok::<(), vespruldo::Refusal>(())
 //! ```
@@ -26,13 +26,13 @@
 //! let key = [0; 16];
 //! let mut block = [0; 16];
 //!
-//! vespruldo::gift_encipher(&key, &mut block)?;
+//! vespruldo::slices::gift_encipher(&key, &mut block)?;
 //! // The designers print cd0bd738...ceb6ff92, most significant byte first;
 //! // byte 0 is the least significant one.
 //! assert_eq!(block[..4], [0x92, 0xff, 0xb6, 0xce]);
 //! assert_eq!(block[12..], [0x38, 0xd7, 0x0b, 0xcd]);
 //!
-//! vespruldo::gift_decipher(&key, &mut block)?;
+//! vespruldo::slices::gift_decipher(&key, &mut block)?;
 //! assert_eq!(block, [0; 16]);
 //! # Ok::<(), vespruldo::Refusal>(())
 //! ```
@@ -48,20 +48,9 @@
 
 #[doc(hidden)]
 pub mod archive;
-mod blake;
-mod books;
-mod chacha;
 mod drawer;
-mod gift;
-mod hyena;
-mod lioness;
 mod refusal;
+pub mod slices;
 
-pub use blake::blake2b;
-pub use books::find_key;
-pub use chacha::chacha20;
 pub use drawer::Drawer;
-pub use gift::{gift_decipher, gift_encipher};
-pub use hyena::{open, open_short, seal, seal_short};
-pub use lioness::{lioness_decipher, lioness_encipher};
 pub use refusal::Refusal;

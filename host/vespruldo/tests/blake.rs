@@ -22,7 +22,7 @@ fn expected_number([key_len, text_len]: [usize; 2], [room_len]: [usize; 1]) -> u
 fn digest() -> Pair<2, 1> {
     Pair::new(
         "digest",
-        |[key, text], [room]| number(vespruldo::blake2b(key, text, room)),
+        |[key, text], [room]| number(vespruldo::slices::blake2b(key, text, room)),
         |[key, text], [room]| blake::digest(key, text, room),
         expected_number,
     )
@@ -139,9 +139,12 @@ fn refusals_are_the_documents() {
         digest().answer(number, &mut random, [key_len, text_len], [room_len]);
     }
     // A slice of nothing lies nowhere.
-    assert_eq!(number(vespruldo::blake2b(&[], &[], &mut [])), 6);
+    assert_eq!(number(vespruldo::slices::blake2b(&[], &[], &mut [])), 6);
     let mut of_nothing = [0; 64];
-    assert_eq!(number(vespruldo::blake2b(&[], &[], &mut of_nothing)), 0);
+    assert_eq!(
+        number(vespruldo::slices::blake2b(&[], &[], &mut of_nothing)),
+        0
+    );
     assert_eq!(digest().done([&[], &[]], [&[0; 64]]), [of_nothing]);
 }
 
@@ -185,6 +188,6 @@ fn published_digests() {
 
 #[test]
 fn rfc_7693_appendix_e_self_test() {
-    let result = self_test(|key, text, room| number(vespruldo::blake2b(key, text, room)));
+    let result = self_test(|key, text, room| number(vespruldo::slices::blake2b(key, text, room)));
     assert_eq!(result, SELF_TEST);
 }

@@ -40,7 +40,7 @@ fn compare(books: Books, class: u16) -> Found {
     let case = || format!("class {class} in {} and {} bytes", this.len(), last.len());
     let found = books::find(this, last, class);
     assert_eq!(raw_find(books, class), found, "{}", case());
-    let key = vespruldo::find_key(this, last, class);
+    let key = vespruldo::slices::find_key(this, last, class);
     assert_eq!(number(key), found.number, "{}", case());
     if let Ok(key) = key {
         // By address: the same bytes elsewhere are not that part of the book.
@@ -358,9 +358,9 @@ fn this_terms_book_wins() {
             };
             assert_eq!(compare(books, class), found);
         }
-        let key = vespruldo::find_key(&whole, &same, class).expect("a key");
+        let key = vespruldo::slices::find_key(&whole, &same, class).expect("a key");
         assert_eq!(key.as_ptr(), whole[4 + 18 * n..].as_ptr());
-        let key = vespruldo::find_key(&EMPTY, &same, class).expect("a key");
+        let key = vespruldo::slices::find_key(&EMPTY, &same, class).expect("a key");
         assert_eq!(key.as_ptr(), same[4 + 18 * n..].as_ptr());
     }
     refuse(11, [&whole, &whole], &[1, 8, 299]);
@@ -404,7 +404,7 @@ fn books_are_only_read() {
             raw_find(lent.each_mut().map(|book| &*book.lent()), class);
             assert!(lent == before, "the archive, class {class}");
             let [this, last] = lent.each_mut().map(Guarded::lent);
-            let _ = vespruldo::find_key(this, last, class);
+            let _ = vespruldo::slices::find_key(this, last, class);
             assert!(lent == before, "the safe function, class {class}");
         }
     }

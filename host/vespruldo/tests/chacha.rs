@@ -25,7 +25,7 @@ fn expected_number([key_len, nonce_len]: [usize; 2], start: u32, text_len: usize
 fn stream_from(start: u32) -> Pair<2, 1> {
     Pair::new(
         format!("start {start:#x}"),
-        move |[key, nonce], [text]| number(vespruldo::chacha20(key, nonce, start, text)),
+        move |[key, nonce], [text]| number(vespruldo::slices::chacha20(key, nonce, start, text)),
         move |[key, nonce], [text]| chacha::stream(key, nonce, start, text),
         move |read_lens, [text_len]| expected_number(read_lens, start, text_len),
     )
@@ -128,7 +128,7 @@ fn the_counters_end_is_the_documents() {
     }
     // No block is needed for the empty text. A slice of nothing lies nowhere.
     for start in STARTS {
-        let outcome = vespruldo::chacha20(&[0; 32], &[0; 12], start, &mut []);
+        let outcome = vespruldo::slices::chacha20(&[0; 32], &[0; 12], start, &mut []);
         assert_eq!(outcome, Ok(()), "{start}");
     }
 }

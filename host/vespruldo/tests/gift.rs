@@ -21,7 +21,7 @@ fn expected_number([key_len]: [usize; 1], [block_len]: [usize; 1]) -> u32 {
 fn encipher() -> Pair<1, 1> {
     Pair::new(
         "encipher",
-        |[key], [block]| number(vespruldo::gift_encipher(key, block)),
+        |[key], [block]| number(vespruldo::slices::gift_encipher(key, block)),
         |[key], [block]| gift::encipher(key, block),
         expected_number,
     )
@@ -30,7 +30,7 @@ fn encipher() -> Pair<1, 1> {
 fn decipher() -> Pair<1, 1> {
     Pair::new(
         "decipher",
-        |[key], [block]| number(vespruldo::gift_decipher(key, block)),
+        |[key], [block]| number(vespruldo::slices::gift_decipher(key, block)),
         |[key], [block]| gift::decipher(key, block),
         expected_number,
     )

@@ -38,7 +38,7 @@ fn seal() -> Pair<4, 2> {
     Pair::new(
         "seal",
         |[key, nonce, data, text], [room, tag]| {
-            number(vespruldo::seal(key, nonce, data, text, room, tag))
+            number(vespruldo::slices::seal(key, nonce, data, text, room, tag))
         },
         |[key, nonce, data, text], [room, tag]| hyena::seal(key, nonce, data, text, room, tag),
         |[key, nonce, data, text], [room, tag]| judged([key, nonce, data, text, tag, room]),
@@ -49,7 +49,7 @@ fn open() -> Pair<5, 1> {
     Pair::new(
         "open",
         |[key, nonce, data, text, tag], [room]| {
-            number(vespruldo::open(key, nonce, data, text, tag, room))
+            number(vespruldo::slices::open(key, nonce, data, text, tag, room))
         },
         |[key, nonce, data, text, tag], [room]| hyena::open(key, nonce, data, text, tag, room),
         |[key, nonce, data, text, tag], [room]| {
@@ -63,7 +63,7 @@ fn seal_short() -> Pair<3, 2> {
     Pair::new(
         "seal_short",
         |[key, nonce, text], [room, tag]| {
-            number(vespruldo::seal_short(key, nonce, text, room, tag))
+            number(vespruldo::slices::seal_short(key, nonce, text, room, tag))
         },
         |[key, nonce, text], [room, tag]| hyena::seal_short(key, nonce, text, room, tag),
         |[key, nonce, text], [room, tag]| judged([key, nonce, 0, text, tag, room]),
@@ -74,7 +74,7 @@ fn open_short() -> Pair<4, 1> {
     Pair::new(
         "open_short",
         |[key, nonce, text, tag], [room]| {
-            number(vespruldo::open_short(key, nonce, text, tag, room))
+            number(vespruldo::slices::open_short(key, nonce, text, tag, room))
         },
         |[key, nonce, text, tag], [room]| hyena::open_short(key, nonce, text, tag, room),
         |[key, nonce, text, tag], [room]| judged_with_wrong_tag([key, nonce, 0, text, tag, room]),
@@ -501,26 +501,26 @@ fn refusals_come_in_the_order_of_the_numbers() {
 fn empty_slices_are_judged_and_taken() {
     let (key, nonce) = ([1; 16], [2; 12]);
     let mut tag = [0; 16];
-    let sealed = vespruldo::seal(&key, &nonce, &[], &[], &mut [], &mut tag);
+    let sealed = vespruldo::slices::seal(&key, &nonce, &[], &[], &mut [], &mut tag);
     assert_eq!(number(sealed), 0);
-    let opened = vespruldo::open(&key, &nonce, &[], &[], &tag, &mut []);
+    let opened = vespruldo::slices::open(&key, &nonce, &[], &[], &tag, &mut []);
     assert_eq!(number(opened), 0);
-    let opened = vespruldo::open_short(&key, &nonce, &[], &tag, &mut []);
+    let opened = vespruldo::slices::open_short(&key, &nonce, &[], &tag, &mut []);
     assert_eq!(number(opened), 0);
     let mut tag_short = [0; 16];
-    let sealed = vespruldo::seal_short(&key, &nonce, &[], &mut [], &mut tag_short);
+    let sealed = vespruldo::slices::seal_short(&key, &nonce, &[], &mut [], &mut tag_short);
     assert_eq!(number(sealed), 0);
     assert_eq!(tag_short, tag);
 
-    let refused = vespruldo::open(&key, &nonce, &[], &[], &[7; 16], &mut []);
+    let refused = vespruldo::slices::open(&key, &nonce, &[], &[], &[7; 16], &mut []);
     assert_eq!(number(refused), 7);
-    let refused = vespruldo::open(&key, &nonce, &[], &[], &[], &mut []);
+    let refused = vespruldo::slices::open(&key, &nonce, &[], &[], &[], &mut []);
     assert_eq!(number(refused), 5);
-    let refused = vespruldo::seal(&key, &nonce, &[], &[1], &mut [], &mut tag);
+    let refused = vespruldo::slices::seal(&key, &nonce, &[], &[1], &mut [], &mut tag);
     assert_eq!(number(refused), 6);
-    let refused = vespruldo::seal(&key, &[], &[], &[], &mut [], &mut []);
+    let refused = vespruldo::slices::seal(&key, &[], &[], &[], &mut [], &mut []);
     assert_eq!(number(refused), 2);
-    let refused = vespruldo::open_short(&[], &[], &[], &[], &mut []);
+    let refused = vespruldo::slices::open_short(&[], &[], &[], &[], &mut []);
     assert_eq!(number(refused), 1);
 }
 
@@ -624,26 +624,26 @@ fn room_of_2_to_the_32_bytes_and_more_is_taken() {
     let mut room = vec![0; (1 << 32) + 19];
     let mut tag_room = [0; 16];
 
-    let sealed = vespruldo::seal(key, nonce, data, &card.text, &mut room, &mut tag_room);
+    let sealed = vespruldo::slices::seal(key, nonce, data, &card.text, &mut room, &mut tag_room);
     assert_eq!(number(sealed), 0);
     assert_first(&room, ciphertext);
     assert_eq!(tag_room, tag);
-    let opened = vespruldo::open(key, nonce, data, ciphertext, tag, &mut room);
+    let opened = vespruldo::slices::open(key, nonce, data, ciphertext, tag, &mut room);
     assert_eq!(number(opened), 0);
     assert_first(&room, &card.text);
-    let refused = vespruldo::open(key, nonce, data, ciphertext, &wrong_tag, &mut room);
+    let refused = vespruldo::slices::open(key, nonce, data, ciphertext, &wrong_tag, &mut room);
     assert_eq!(number(refused), 7);
     assert_first(&room, &[0; 20]);
 
     tag_room.fill(0);
-    let sealed = vespruldo::seal_short(key, nonce, &card.text, &mut room, &mut tag_room);
+    let sealed = vespruldo::slices::seal_short(key, nonce, &card.text, &mut room, &mut tag_room);
     assert_eq!(number(sealed), 0);
     assert_first(&room, ciphertext);
     assert_eq!(tag_room, tag);
-    let opened = vespruldo::open_short(key, nonce, ciphertext, tag, &mut room);
+    let opened = vespruldo::slices::open_short(key, nonce, ciphertext, tag, &mut room);
     assert_eq!(number(opened), 0);
     assert_first(&room, &card.text);
-    let refused = vespruldo::open_short(key, nonce, ciphertext, &wrong_tag, &mut room);
+    let refused = vespruldo::slices::open_short(key, nonce, ciphertext, &wrong_tag, &mut room);
     assert_eq!(number(refused), 7);
     assert_first(&room, &[0; 20]);
 }

@@ -23,7 +23,7 @@ fn expected_number([key_len, iv_len]: [usize; 2], [block_len]: [usize; 1]) -> u3
 fn encipher() -> Pair<2, 1> {
     Pair::new(
         "encipher",
-        |[key, iv], [block]| number(vespruldo::lioness_encipher(key, iv, block)),
+        |[key, iv], [block]| number(vespruldo::slices::lioness_encipher(key, iv, block)),
         |[key, iv], [block]| lioness::encipher(key, iv, block),
         expected_number,
     )
@@ -32,7 +32,7 @@ fn encipher() -> Pair<2, 1> {
 fn decipher() -> Pair<2, 1> {
     Pair::new(
         "decipher",
-        |[key, iv], [block]| number(vespruldo::lioness_decipher(key, iv, block)),
+        |[key, iv], [block]| number(vespruldo::slices::lioness_decipher(key, iv, block)),
         |[key, iv], [block]| lioness::decipher(key, iv, block),
         expected_number,
     )
@@ -139,7 +139,10 @@ fn refusals_are_the_documents() {
         }
     }
     // A slice of nothing lies nowhere.
-    for one_way in [vespruldo::lioness_encipher, vespruldo::lioness_decipher] {
+    for one_way in [
+        vespruldo::slices::lioness_encipher,
+        vespruldo::slices::lioness_decipher,
+    ] {
         assert_eq!(number(one_way(&[0; 128], &[0; 48], &mut [])), 4);
     }
 }

@@ -22,7 +22,7 @@ fn call(one_way: OneWay, key: &[u8], block: &mut [u8]) -> Result<(), Refusal> {
 /// use vespruldo::Refusal;
 ///
 /// let mut block = [7; 16];
-/// let refused = vespruldo::gift_encipher(&[0; 15], &mut block);
+/// let refused = vespruldo::slices::gift_encipher(&[0; 15], &mut block);
 /// assert_eq!(refused, Err(Refusal::KeyLength));
 /// assert_eq!(block, [7; 16]);
 /// ```
@@ -42,7 +42,7 @@ pub fn gift_encipher(key: &[u8], block: &mut [u8]) -> Result<(), Refusal> {
 /// use vespruldo::Refusal;
 ///
 /// let mut block = [7; 17];
-/// let refused = vespruldo::gift_decipher(&[0; 16], &mut block);
+/// let refused = vespruldo::slices::gift_decipher(&[0; 16], &mut block);
 /// assert_eq!(refused, Err(Refusal::TextLength));
 /// assert_eq!(block, [7; 17]);
 /// ```

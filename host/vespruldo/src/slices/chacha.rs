@@ -23,7 +23,7 @@ const PROMISED: [Refusal; 4] = [
 /// let mut text = *b"Ladies and Gentlemen of the class of '99: If I could offer you \
 ///                   only one tip for the future, sunscreen would be it.";
 ///
-/// vespruldo::chacha20(&key, &nonce, 1, &mut text)?;
+/// vespruldo::slices::chacha20(&key, &nonce, 1, &mut text)?;
 /// assert_eq!(text[..4], [0x6e, 0x2e, 0x35, 0x9a]);
 /// assert_eq!(text[110..], [0x5e, 0x42, 0x87, 0x4d]);
 /// # Ok::<(), vespruldo::Refusal>(())
@@ -35,7 +35,7 @@ const PROMISED: [Refusal; 4] = [
 /// use vespruldo::Refusal;
 ///
 /// let mut text = [7; 65];
-/// let refused = vespruldo::chacha20(&[0; 32], &[0; 12], u32::MAX, &mut text);
+/// let refused = vespruldo::slices::chacha20(&[0; 32], &[0; 12], u32::MAX, &mut text);
 /// assert_eq!(refused, Err(Refusal::StreamTooLong));
 /// assert_eq!(text, [7; 65]);
 /// ```

@@ -14,7 +14,7 @@ const PROMISED: [Refusal; 3] = [Refusal::KeyLength, Refusal::TextLength, Refusal
 /// ```
 /// // RFC 7693, appendix A.
 /// let mut digest = [0; 64];
-/// vespruldo::blake2b(&[], b"abc", &mut digest)?;
+/// vespruldo::slices::blake2b(&[], b"abc", &mut digest)?;
 /// assert_eq!(digest[..4], [0xba, 0x80, 0xa5, 0x3f]);
 /// assert_eq!(digest[60..], [0xd4, 0x00, 0x99, 0x23]);
 /// # Ok::<(), vespruldo::Refusal>(())
@@ -24,7 +24,7 @@ const PROMISED: [Refusal; 3] = [Refusal::KeyLength, Refusal::TextLength, Refusal
 /// use vespruldo::Refusal;
 ///
 /// let mut digest = [7; 65];
-/// let refused = vespruldo::blake2b(&[], b"abc", &mut digest);
+/// let refused = vespruldo::slices::blake2b(&[], b"abc", &mut digest);
 /// assert_eq!(refused, Err(Refusal::RoomLength));
 /// assert_eq!(digest, [7; 65]);
 /// ```

@@ -39,12 +39,12 @@ const PROMISED_SHORT: [Refusal; 6] = [
 /// let mut ciphertext = [0; 12];
 /// let mut tag = [0; 16];
 ///
-/// vespruldo::seal(&key, &nonce, b"class 7", text, &mut ciphertext, &mut tag)?;
+/// vespruldo::slices::seal(&key, &nonce, b"class 7", text, &mut ciphertext, &mut tag)?;
 /// assert_ne!(ciphertext, *text);
 ///
 /// // Who opens it needs the same key, nonce and data.
 /// let mut opened = [0; 12];
-/// vespruldo::open(&key, &nonce, b"class 7", &ciphertext, &tag, &mut opened)?;
+/// vespruldo::slices::open(&key, &nonce, b"class 7", &ciphertext, &tag, &mut opened)?;
 /// assert_eq!(opened, *text);
 /// # Ok::<(), vespruldo::Refusal>(())
 /// ```
@@ -55,7 +55,7 @@ const PROMISED_SHORT: [Refusal; 6] = [
 /// use vespruldo::Refusal;
 ///
 /// let (mut room, mut tag) = ([7; 11], [7; 16]);
-/// let refused = vespruldo::seal(&[1; 16], &[2; 12], b"", b"Anna, desk 4", &mut room, &mut tag);
+/// let refused = vespruldo::slices::seal(&[1; 16], &[2; 12], b"", b"Anna, desk 4", &mut room, &mut tag);
 /// assert_eq!(refused, Err(Refusal::RoomLength));
 /// assert_eq!((room, tag), ([7; 11], [7; 16]));
 /// ```
@@ -111,16 +111,16 @@ pub fn seal(
 /// let (key, nonce) = ([1; 16], [2; 12]);
 /// let mut ciphertext = [0; 12];
 /// let mut tag = [0; 16];
-/// vespruldo::seal(&key, &nonce, b"class 7", b"Anna, desk 4", &mut ciphertext, &mut tag)?;
+/// vespruldo::slices::seal(&key, &nonce, b"class 7", b"Anna, desk 4", &mut ciphertext, &mut tag)?;
 ///
 /// // The room may be longer than the text.
 /// let mut room = [7; 14];
-/// vespruldo::open(&key, &nonce, b"class 7", &ciphertext, &tag, &mut room)?;
+/// vespruldo::slices::open(&key, &nonce, b"class 7", &ciphertext, &tag, &mut room)?;
 /// assert_eq!(room, *b"Anna, desk 4\x07\x07");
 ///
 /// // One bit was changed on the way.
 /// ciphertext[11] ^= 1;
-/// let refused = vespruldo::open(&key, &nonce, b"class 7", &ciphertext, &tag, &mut room);
+/// let refused = vespruldo::slices::open(&key, &nonce, b"class 7", &ciphertext, &tag, &mut room);
 /// assert_eq!(refused, Err(Refusal::WrongTag));
 /// assert_eq!(room, *b"\0\0\0\0\0\0\0\0\0\0\0\0\x07\x07");
 /// # Ok::<(), Refusal>(())
@@ -168,10 +168,10 @@ pub fn open(
 /// ```
 /// let (key, nonce, text) = ([1; 16], [2; 12], b"Anna, desk 4");
 /// let (mut ciphertext, mut tag) = ([0; 12], [0; 16]);
-/// vespruldo::seal_short(&key, &nonce, text, &mut ciphertext, &mut tag)?;
+/// vespruldo::slices::seal_short(&key, &nonce, text, &mut ciphertext, &mut tag)?;
 ///
 /// let (mut same_ciphertext, mut same_tag) = ([0; 12], [0; 16]);
-/// vespruldo::seal(&key, &nonce, &[], text, &mut same_ciphertext, &mut same_tag)?;
+/// vespruldo::slices::seal(&key, &nonce, &[], text, &mut same_ciphertext, &mut same_tag)?;
 /// assert_eq!((ciphertext, tag), (same_ciphertext, same_tag));
 /// # Ok::<(), vespruldo::Refusal>(())
 /// ```
@@ -212,14 +212,14 @@ pub fn seal_short(
 ///
 /// let (key, nonce) = ([1; 16], [2; 12]);
 /// let (mut ciphertext, mut tag) = ([0; 12], [0; 16]);
-/// vespruldo::seal_short(&key, &nonce, b"Anna, desk 4", &mut ciphertext, &mut tag)?;
+/// vespruldo::slices::seal_short(&key, &nonce, b"Anna, desk 4", &mut ciphertext, &mut tag)?;
 ///
 /// let mut room = [0; 12];
-/// vespruldo::open_short(&key, &nonce, &ciphertext, &tag, &mut room)?;
+/// vespruldo::slices::open_short(&key, &nonce, &ciphertext, &tag, &mut room)?;
 /// assert_eq!(room, *b"Anna, desk 4");
 ///
 /// tag[0] ^= 1;
-/// let refused = vespruldo::open_short(&key, &nonce, &ciphertext, &tag, &mut room);
+/// let refused = vespruldo::slices::open_short(&key, &nonce, &ciphertext, &tag, &mut room);
 /// assert_eq!(refused, Err(Refusal::WrongTag));
 /// assert_eq!(room, [0; 12]);
 /// # Ok::<(), Refusal>(())

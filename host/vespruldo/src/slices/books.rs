@@ -25,13 +25,13 @@ const KEY: usize = 16;
 /// let this_term = [vec![1, 0], entry(7, [1; 16])].concat();
 /// let last_term = [vec![2, 0], entry(7, [2; 16]), entry(300, [3; 16])].concat();
 ///
-/// assert_eq!(vespruldo::find_key(&this_term, &last_term, 7)?, [1; 16]);
-/// assert_eq!(vespruldo::find_key(&this_term, &last_term, 300)?, [3; 16]);
-/// let missing = vespruldo::find_key(&this_term, &last_term, 8);
+/// assert_eq!(vespruldo::slices::find_key(&this_term, &last_term, 7)?, [1; 16]);
+/// assert_eq!(vespruldo::slices::find_key(&this_term, &last_term, 300)?, [3; 16]);
+/// let missing = vespruldo::slices::find_key(&this_term, &last_term, 8);
 /// assert_eq!(missing, Err(Refusal::ClassMissing));
 ///
 /// // The first book would do, but the second has lost a byte.
-/// let refused = vespruldo::find_key(&this_term, &last_term[..37], 7);
+/// let refused = vespruldo::slices::find_key(&this_term, &last_term[..37], 7);
 /// assert_eq!(refused, Err(Refusal::BookForm));
 /// # Ok::<(), Refusal>(())
 /// ```

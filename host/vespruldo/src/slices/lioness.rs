@@ -36,9 +36,9 @@ fn call(one_way: OneWay, key: &[u8], iv: &[u8], block: &mut [u8]) -> Result<(), 
 /// let plain = *b"forty bytes: a wide block is one of them";
 /// let mut block = plain;
 ///
-/// vespruldo::lioness_encipher(&[1; 128], &[2; 48], &mut block)?;
+/// vespruldo::slices::lioness_encipher(&[1; 128], &[2; 48], &mut block)?;
 /// assert_ne!(block, plain);
-/// vespruldo::lioness_decipher(&[1; 128], &[2; 48], &mut block)?;
+/// vespruldo::slices::lioness_decipher(&[1; 128], &[2; 48], &mut block)?;
 /// assert_eq!(block, plain);
 /// # Ok::<(), vespruldo::Refusal>(())
 /// ```
@@ -59,7 +59,7 @@ pub fn lioness_encipher(key: &[u8], iv: &[u8], block: &mut [u8]) -> Result<(), R
 /// use vespruldo::Refusal;
 ///
 /// let mut block = [7; 32];
-/// let refused = vespruldo::lioness_decipher(&[1; 128], &[2; 48], &mut block);
+/// let refused = vespruldo::slices::lioness_decipher(&[1; 128], &[2; 48], &mut block);
 /// assert_eq!(refused, Err(Refusal::TextLength));
 /// assert_eq!(block, [7; 32]);
 /// ```

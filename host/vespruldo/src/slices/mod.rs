@@ -1,0 +1,19 @@
+//! The archive's functions over slices of any length.
+//!
+//! Every refusal of document 01 can come from these, also those that a type of
+//! the crate's root rules out, and nothing is allocated: they write to room
+//! that is lent.
+
+mod blake;
+mod books;
+mod chacha;
+mod gift;
+mod hyena;
+mod lioness;
+
+pub use blake::blake2b;
+pub use books::find_key;
+pub use chacha::chacha20;
+pub use gift::{gift_decipher, gift_encipher};
+pub use hyena::{open, open_short, seal, seal_short};
+pub use lioness::{lioness_decipher, lioness_encipher};
