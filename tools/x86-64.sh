@@ -1,12 +1,17 @@
 # To be sourced: how to build and run what links the archive, which is for x86-64. On any other machine
-# tools/setup has installed a cross compiler, Rust's standard library for x86-64 and an emulator.
+# tools/setup has installed cross compilers, Rust's standard library for x86-64 and an emulator.
 # shellcheck shell=sh disable=SC2034
+command -v cargo >/dev/null || PATH=$PATH:$HOME/.cargo/bin # where rustup puts it
 if [ "$(uname -m)" = x86_64 ]; then
     x86_cc=cc
+    x86_cxx=c++
+    x86_binutils=
     x86_run=
     x86_cargo() { cargo "$@"; }
 else
     x86_cc=x86_64-linux-gnu-gcc
+    x86_cxx=x86_64-linux-gnu-g++
+    x86_binutils=x86_64-linux-gnu-
     x86_run=qemu-x86_64
     # Debian's compiler, since its standard library for x86-64 is of the same release.
     x86_cargo() {

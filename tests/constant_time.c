@@ -1,0 +1,379 @@
+/* Constant time, checked on the machine code: to be run under valgrind's
+   memcheck, which follows every bit that is marked undefined and counts an error
+   for each conditional jump and each address that depends on one.
+
+   Marked are the bytes of every buffer that is lent, the start counter of a key
+   stream, and drawers. Not marked are lengths, and of key books the counts and
+   class numbers, which say where to look; the keys beside them are. Every
+   function of the archive is called, done and refused. Nothing may then depend
+   on a marked bit but the exceptions that are named here, each in one place of
+   one call; docs/SECURITY.md explains them. */
+
+#include <stdbool.h>
+#include <stdio.h>
+#include <string.h>
+#include <valgrind/memcheck.h>
+
+#include "vespruldo.h"
+
+#define LONGEST 300
+#define COUNT(array) (sizeof(array) / sizeof *(array))
+
+/* What may depend on marked bits, and in how many places of one call. */
+struct exception {
+    const char *name;
+    unsigned long places;
+};
+
+static const struct exception none = {"nothing", 0};
+static const struct exception verdict = {"the verdict of a tag (7)", 1};
+static const struct exception stream_end = {"where a key stream would end (8)", 1};
+static const struct exception spent = {"whether a drawer is spent (9)", 1};
+
+static unsigned long calls;
+static bool failed;
+static unsigned long errors_before;
+
+static void begin(void)
+{
+    errors_before = VALGRIND_COUNT_ERRORS;
+}
+
+/* Ends a call that answered `number`. A number that itself depends on marked
+   bits is one place with the jump that made it, and a place where there was no
+   such jump. */
+static void end(const char *function, uint32_t number, uint32_t wanted, const struct exception *allowed)
+{
+    unsigned long places = VALGRIND_COUNT_ERRORS - errors_before;
+    uint32_t marks = 0;
+    (void)VALGRIND_GET_VBITS(&number, &marks, sizeof number);
+    VALGRIND_MAKE_MEM_DEFINED(&number, sizeof number);
+    if (places == 0 && marks != 0) {
+        places = 1;
+    }
+    if (number != wanted || places != allowed->places) {
+        printf("%s answered %u where %u is right; %lu places depend on marked bits, allowed is %s (%lu)\n", function,
+               (unsigned)number, (unsigned)wanted, places, allowed->name, allowed->places);
+        failed = true;
+    }
+    calls++;
+}
+
+static void mark(void *bytes, size_t len)
+{
+    VALGRIND_MAKE_MEM_UNDEFINED(bytes, len);
+}
+
+/* Each byte must hold a marked bit, or the marks were lost on the way and the
+   calls show nothing. */
+static void must_be_marked(const char *function, const uint8_t *bytes, size_t len)
+{
+    uint8_t marks[LONGEST];
+    (void)VALGRIND_GET_VBITS(bytes, marks, len);
+    for (size_t i = 0; i < len; i++) {
+        if (marks[i] == 0) {
+            printf("%s: byte %zu of the %zu that it wrote depends on nothing marked\n", function, i, len);
+            failed = true;
+        }
+    }
+}
+
+/* ---- Functions over buffers ---- */
+
+static uint8_t key[LONGEST], nonce[LONGEST], data[LONGEST], text[LONGEST];
+static uint8_t ciphertext[LONGEST], tag[LONGEST], room[LONGEST];
+static uint32_t start;
+
+struct lengths {
+    size_t key, nonce, data, text, tag, room;
+};
+
+/* What a function writes is in `output`, as many bytes as its room or, where it
+   works in one buffer, as its text has. */
+struct function {
+    const char *name;
+    uint32_t (*call)(struct lengths n);
+    const struct exception *when_done;
+    uint8_t *output;
+};
+
+static uint32_t seal(struct lengths n)
+{
+    return vespruldo_seal(key, n.key, nonce, n.nonce, data, n.data, text, n.text, ciphertext, n.room, tag, n.tag);
+}
+
+static uint32_t open_sealed(struct lengths n)
+{
+    return vespruldo_open(key, n.key, nonce, n.nonce, data, n.data, ciphertext, n.text, tag, n.tag, room, n.room);
+}
+
+static uint32_t seal_short(struct lengths n)
+{
+    return vespruldo_seal_short(key, n.key, nonce, n.nonce, text, n.text, ciphertext, n.room, tag, n.tag);
+}
+
+static uint32_t open_short(struct lengths n)
+{
+    return vespruldo_open_short(key, n.key, nonce, n.nonce, ciphertext, n.text, tag, n.tag, room, n.room);
+}
+
+static uint32_t gift_encipher(struct lengths n)
+{
+    return vespruldo_gift_encipher(key, n.key, text, n.text);
+}
+
+static uint32_t gift_decipher(struct lengths n)
+{
+    return vespruldo_gift_decipher(key, n.key, text, n.text);
+}
+
+static uint32_t chacha20(struct lengths n)
+{
+    return vespruldo_chacha20(key, n.key, nonce, n.nonce, start, text, n.text);
+}
+
+static uint32_t blake2b(struct lengths n)
+{
+    return vespruldo_blake2b(key, n.key, text, n.text, room, n.room);
+}
+
+static uint32_t lioness_encipher(struct lengths n)
+{
+    return vespruldo_lioness_encipher(key, n.key, nonce, n.nonce, text, n.text);
+}
+
+static uint32_t lioness_decipher(struct lengths n)
+{
+    return vespruldo_lioness_decipher(key, n.key, nonce, n.nonce, text, n.text);
+}
+
+static const struct function
+    f_seal = {"vespruldo_seal", seal, &none, ciphertext},
+    f_open = {"vespruldo_open", open_sealed, &verdict, room},
+    f_seal_short = {"vespruldo_seal_short", seal_short, &none, ciphertext},
+    f_open_short = {"vespruldo_open_short", open_short, &verdict, room},
+    f_gift_encipher = {"vespruldo_gift_encipher", gift_encipher, &none, text},
+    f_gift_decipher = {"vespruldo_gift_decipher", gift_decipher, &none, text},
+    f_chacha20 = {"vespruldo_chacha20", chacha20, &stream_end, text},
+    f_blake2b = {"vespruldo_blake2b", blake2b, &none, room},
+    f_lioness_encipher = {"vespruldo_lioness_encipher", lioness_encipher, &none, text},
+    f_lioness_decipher = {"vespruldo_lioness_decipher", lioness_decipher, &none, text};
+
+static void mark_all(void)
+{
+    uint8_t *buffers[] = {key, nonce, data, text, ciphertext, tag, room};
+    for (size_t i = 0; i < COUNT(buffers); i++) {
+        mark(buffers[i], LONGEST);
+    }
+    mark(&start, sizeof start);
+}
+
+static void check(const struct function *f, struct lengths n, uint32_t wanted, const struct exception *allowed)
+{
+    mark_all();
+    begin();
+    end(f->name, f->call(n), wanted, allowed);
+}
+
+static void check_done(const struct function *f, struct lengths n)
+{
+    check(f, n, VESPRULDO_DONE, f->when_done);
+    must_be_marked(f->name, f->output, f->output == text ? n.text : n.room);
+}
+
+/* Opened with a wrong bit in the tag's first byte, then in its last: neither
+   takes a jump more than the right tag. */
+static void check_wrong_tags(const struct function *f, struct lengths n)
+{
+    for (size_t j = 0; j < VESPRULDO_TAG_BYTES; j += VESPRULDO_TAG_BYTES - 1) {
+        tag[j] ^= 1;
+        check(f, n, VESPRULDO_WRONG_TAG, &verdict);
+        tag[j] ^= 1;
+    }
+}
+
+static void check_cards(size_t data_len, size_t len)
+{
+    struct lengths n = {VESPRULDO_KEY_BYTES, VESPRULDO_NONCE_BYTES, data_len, len, VESPRULDO_TAG_BYTES, len};
+    check_done(&f_seal, n);
+    must_be_marked("vespruldo_seal", tag, VESPRULDO_TAG_BYTES);
+    check_done(&f_open, n);
+    check_wrong_tags(&f_open, n);
+    check_done(&f_seal_short, n);
+    check_done(&f_open_short, n);
+    check_wrong_tags(&f_open_short, n);
+}
+
+static void check_others(size_t len)
+{
+    struct lengths stream = {.key = VESPRULDO_CHACHA20_KEY_BYTES, .nonce = VESPRULDO_CHACHA20_NONCE_BYTES, .text = len};
+    start = 7;
+    check_done(&f_chacha20, stream);
+
+    struct lengths digest = {.key = 44, .text = len, .room = VESPRULDO_BLAKE2B_DIGEST_MAX};
+    check_done(&f_blake2b, digest);
+    struct lengths shorter = {.key = VESPRULDO_BLAKE2B_KEY_MAX, .text = len, .room = 33};
+    check_done(&f_blake2b, shorter);
+    struct lengths without_key = {.text = len + 1, .room = VESPRULDO_BLAKE2B_DIGEST_MAX};
+    check_done(&f_blake2b, without_key);
+
+    struct lengths wide = {
+        .key = VESPRULDO_LIONESS_KEY_BYTES,
+        .nonce = VESPRULDO_LIONESS_IV_BYTES,
+        .text = VESPRULDO_LIONESS_BLOCK_MIN + len,
+    };
+    check_done(&f_lioness_encipher, wide);
+    check_done(&f_lioness_decipher, wide);
+}
+
+/* Lengths round the borders of GIFT-128's blocks and halves, and of those of
+   ChaCha20 and BLAKE2b. */
+static void check_buffers(void)
+{
+    static const size_t lens[] = {0, 1, 7, 8, 9, 15, 16, 17, 31, 32, 33, 48, 63, 64, 65, 127, 128, 129, 256, 257};
+    static const size_t data_lens[] = {0, 1, 8, 15, 16, 17, 40};
+    for (size_t i = 0; i < COUNT(lens); i++) {
+        for (size_t j = 0; j < COUNT(data_lens); j++) {
+            check_cards(data_lens[j], lens[i]);
+        }
+        check_others(lens[i]);
+    }
+    struct lengths block = {.key = VESPRULDO_KEY_BYTES, .text = VESPRULDO_GIFT_BLOCK_BYTES};
+    check_done(&f_gift_encipher, block);
+    check_done(&f_gift_decipher, block);
+}
+
+/* Refused for a length: nothing marked is looked at. No byte is read or written
+   then, so the lengths given may be untrue. */
+static void check_refusals(void)
+{
+    static const struct {
+        const struct function *function;
+        struct lengths n;
+        uint32_t number;
+    } cases[] = {
+        {&f_seal, {15, 12, 9, 20, 16, 20}, 1},      {&f_seal, {16, 13, 9, 20, 16, 20}, 2},
+        {&f_seal, {16, 12, 65537, 20, 16, 20}, 3},  {&f_seal, {16, 12, 9, 1048577, 16, 20}, 4},
+        {&f_seal, {16, 12, 9, 20, 15, 20}, 5},      {&f_seal, {16, 12, 9, 20, 16, 19}, 6},
+        {&f_open, {15, 12, 9, 20, 16, 20}, 1},      {&f_open, {16, 13, 9, 20, 16, 20}, 2},
+        {&f_open, {16, 12, 65537, 20, 16, 20}, 3},  {&f_open, {16, 12, 9, 1048577, 16, 20}, 4},
+        {&f_open, {16, 12, 9, 20, 15, 20}, 5},      {&f_open, {16, 12, 9, 20, 16, 19}, 6},
+        {&f_seal_short, {0, 12, 0, 20, 16, 20}, 1}, {&f_seal_short, {16, 12, 0, 20, 16, 19}, 6},
+        {&f_open_short, {0, 12, 0, 20, 16, 20}, 1}, {&f_open_short, {16, 12, 0, 20, 16, 19}, 6},
+        {&f_gift_encipher, {.key = 17, .text = 16}, 1},
+        {&f_gift_decipher, {.key = 16, .text = 17}, 4},
+        {&f_chacha20, {.key = 31, .nonce = 12, .text = 20}, 1},
+        {&f_chacha20, {.key = 32, .nonce = 11, .text = 20}, 2},
+        {&f_chacha20, {.key = 32, .nonce = 12, .text = 1048577}, 4},
+        {&f_blake2b, {.key = 65, .text = 20, .room = 64}, 1},
+        {&f_blake2b, {.key = 64, .text = 1048577, .room = 64}, 4},
+        {&f_blake2b, {.key = 64, .text = 20, .room = 65}, 6},
+        {&f_lioness_encipher, {.key = 127, .nonce = 48, .text = 64}, 1},
+        {&f_lioness_encipher, {.key = 128, .nonce = 47, .text = 64}, 2},
+        {&f_lioness_decipher, {.key = 128, .nonce = 48, .text = 32}, 4},
+    };
+    for (size_t i = 0; i < COUNT(cases); i++) {
+        check(cases[i].function, cases[i].n, cases[i].number, &none);
+    }
+    struct lengths two_blocks = {.key = 32, .nonce = 12, .text = 65};
+    start = UINT32_MAX;
+    check(&f_chacha20, two_blocks, VESPRULDO_STREAM_TOO_LONG, &stream_end);
+}
+
+/* ---- Drawers and key books ---- */
+
+static void check_draws(uint64_t count, uint32_t wanted)
+{
+    uint32_t reader = 7;
+    mark(&reader, sizeof reader);
+    mark(&count, sizeof count);
+    begin();
+    vespruldo_drawer drawer = vespruldo_drawer_start(reader, count);
+    end("vespruldo_drawer_start", VESPRULDO_DONE, VESPRULDO_DONE, &none);
+    begin();
+    end("vespruldo_drawer_draw", vespruldo_drawer_draw(drawer).number, wanted, &spent);
+    begin();
+    end("vespruldo_drawer_iv", vespruldo_drawer_iv(drawer).number, wanted, &spent);
+}
+
+#define ENTRIES 3
+#define ENTRY (2 + VESPRULDO_KEY_BYTES)
+#define BOOK (2 + ENTRIES * ENTRY)
+
+static void make_book(uint8_t book[BOOK], uint8_t first_class)
+{
+    memset(book, 0, BOOK);
+    book[0] = ENTRIES;
+    for (size_t i = 0; i < ENTRIES; i++) {
+        uint8_t *entry = book + 2 + i * ENTRY;
+        entry[0] = (uint8_t)(first_class + i);
+        mark(entry + 2, VESPRULDO_KEY_BYTES);
+    }
+}
+
+/* This term's book has the classes 1 to 3, last term's 2 to 4. */
+static void check_books(void)
+{
+    uint8_t this_term[BOOK];
+    uint8_t last_term[BOOK];
+    make_book(this_term, 1);
+    make_book(last_term, 2);
+    for (uint16_t class_number = 0; class_number < 6; class_number++) {
+        uint32_t wanted = 1 <= class_number && class_number <= 4 ? VESPRULDO_DONE : VESPRULDO_CLASS_MISSING;
+        begin();
+        vespruldo_found found = vespruldo_key_find(this_term, BOOK, last_term, BOOK, class_number);
+        end("vespruldo_key_find", found.number, wanted, &none);
+    }
+    begin();
+    vespruldo_found found = vespruldo_key_find(this_term, BOOK, last_term, BOOK - 1, 1);
+    end("vespruldo_key_find", found.number, VESPRULDO_BOOK_FORM, &none);
+}
+
+/* ---- That leaks are found ---- */
+
+static void step(void)
+{
+    calls++;
+}
+
+static void jump_on(const uint8_t *secret)
+{
+    if (secret[0] & 1) {
+        step();
+    }
+}
+
+static void index_by(const uint8_t *secret)
+{
+    static volatile uint8_t table[256];
+    (void)table[secret[0]];
+}
+
+static void must_be_found(const char *leak, void (*leaky)(const uint8_t *))
+{
+    mark(key, sizeof key);
+    begin();
+    leaky(key);
+    if (VALGRIND_COUNT_ERRORS == errors_before) {
+        printf("%s was not found\n", leak);
+        failed = true;
+    }
+}
+
+int main(void)
+{
+    if (!RUNNING_ON_VALGRIND) {
+        printf("to be run under valgrind\n");
+        return 2;
+    }
+    must_be_found("a jump on a marked bit", jump_on);
+    must_be_found("an address made from marked bits", index_by);
+    calls = 0;
+    check_buffers();
+    check_refusals();
+    check_draws(5, VESPRULDO_DONE);
+    check_draws(UINT64_MAX, VESPRULDO_DRAWER_SPENT);
+    check_books();
+    printf("constant time: %lu calls%s\n", calls, failed ? ", not all as they should be" : "");
+    return failed ? 1 : 0;
+}
