@@ -25,7 +25,7 @@ fn main() {
     println!("cargo:rerun-if-changed={}", archive.display());
     if !archive.is_file() {
         eprintln!(
-            "{} is missing: run `rt staticlib vespruldo` in the repository's root first, \
+            "{} is missing: run `make archive` in the repository's root first, \
              or name the archive's directory in {DIR_VARIABLE}",
             archive.display()
         );

@@ -3,6 +3,7 @@
 use crate::archive::{
     self, vespruldo_drawer_draw, vespruldo_drawer_iv, vespruldo_drawer_start, Drawn,
 };
+use crate::bytes::{Iv, Nonce};
 use crate::refusal::{outcome, Refusal};
 
 /// A drawer of nonces: a reader number and a count, both given at its start.
@@ -20,18 +21,13 @@ use crate::refusal::{outcome, Refusal};
 /// For each text that is sealed a nonce is drawn:
 ///
 /// ```
-/// use vespruldo::Drawer;
+/// use vespruldo::{open, seal, Drawer, Key};
 ///
+/// let key = Key::from([1; 16]);
 /// let mut drawer = Drawer::start(7, 0);
-/// let key = [1; 16];
-/// let (mut ciphertext, mut tag) = ([0; 4], [0; 16]);
 /// for text in [b"Anna", b"Bert"] {
-///     let nonce = drawer.draw()?;
-///     vespruldo::slices::seal(&key, &nonce, b"class 7", text, &mut ciphertext, &mut tag)?;
-///
-///     let mut opened = [0; 4];
-///     vespruldo::slices::open(&key, &nonce, b"class 7", &ciphertext, &tag, &mut opened)?;
-///     assert_eq!(opened, *text);
+///     let sealed = seal(&key, drawer.draw()?, b"class 7", text)?;
+///     assert_eq!(open(&key, b"class 7", &sealed)?, text);
 /// }
 /// assert_eq!(drawer.count(), 2);
 /// # Ok::<(), vespruldo::Refusal>(())
@@ -65,13 +61,13 @@ impl Drawer {
         Drawer(unsafe { vespruldo_drawer_start(reader, count) })
     }
 
-    /// Draws 12 bytes, a nonce: reader number, then count, both little-endian.
-    /// The count grows by one. A refused draw leaves the drawer as it was.
+    /// Draws a nonce: reader number, then count, both little-endian. The count
+    /// grows by one. A refused draw leaves the drawer as it was.
     ///
     /// ```
     /// let mut drawer = vespruldo::Drawer::start(0x0102_0304, 5);
-    /// assert_eq!(drawer.draw()?, [4, 3, 2, 1, 5, 0, 0, 0, 0, 0, 0, 0]);
-    /// assert_eq!(drawer.draw()?, [4, 3, 2, 1, 6, 0, 0, 0, 0, 0, 0, 0]);
+    /// assert_eq!(drawer.draw()?.into_bytes(), [4, 3, 2, 1, 5, 0, 0, 0, 0, 0, 0, 0]);
+    /// assert_eq!(drawer.draw()?.into_bytes(), [4, 3, 2, 1, 6, 0, 0, 0, 0, 0, 0, 0]);
     /// # Ok::<(), vespruldo::Refusal>(())
     /// ```
     ///
@@ -90,31 +86,34 @@ impl Drawer {
     /// # Errors
     ///
     /// [`Refusal::DrawerSpent`] if the count is 2^64 - 1.
-    pub fn draw(&mut self) -> Result<[u8; 12], Refusal> {
+    pub fn draw(&mut self) -> Result<Nonce, Refusal> {
         // SAFETY: see the crate's root.
         self.hand_over(|drawer| unsafe { vespruldo_drawer_draw(drawer) })
+            .map(Nonce::from)
     }
 
-    /// Draws 48 bytes, an iv: one draw written four times. The count grows by
-    /// one. A refused iv leaves the drawer as it was.
+    /// Draws an iv: one draw written four times. The count grows by one. A
+    /// refused iv leaves the drawer as it was.
     ///
     /// ```
-    /// let mut drawer = vespruldo::Drawer::start(7, 0);
-    /// let iv = drawer.iv()?;
-    /// assert_eq!(iv[..12], iv[36..]);
-    /// assert_eq!(drawer.count(), 1);
+    /// use vespruldo::Drawer;
     ///
-    /// let mut block = *b"A wide block has more than 32 bytes.";
-    /// vespruldo::slices::lioness_encipher(&[1; 128], &iv, &mut block)?;
+    /// let mut drawer = Drawer::start(7, 258);
+    /// let iv = drawer.iv()?.into_bytes();
+    /// assert_eq!(drawer.count(), 259);
+    ///
+    /// let nonce = Drawer::start(7, 258).draw()?.into_bytes();
+    /// assert_eq!(iv[..], nonce.repeat(4));
     /// # Ok::<(), vespruldo::Refusal>(())
     /// ```
     ///
     /// # Errors
     ///
     /// As for [`Drawer::draw`].
-    pub fn iv(&mut self) -> Result<[u8; 48], Refusal> {
+    pub fn iv(&mut self) -> Result<Iv, Refusal> {
         // SAFETY: see the crate's root.
         self.hand_over(|drawer| unsafe { vespruldo_drawer_iv(drawer) })
+            .map(Iv::from)
     }
 
     /// The reader number.

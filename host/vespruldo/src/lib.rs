@@ -1,41 +1,61 @@
-//! Safe functions over the archive `libvespruldo.a`.
+//! Sealing for talking card readers: safe Rust over the archive
+//! `libvespruldo.a`.
 //!
-//! The archive's functions take buffers as a pointer and a length and answer
-//! the number of document 01's table "What comes back", some with more beside
-//! it. Here they take slices, and every number but 0 becomes a [`Refusal`].
-//!
-//! A card is sealed with what belongs to it, and opened with the same:
+//! A card is sealed under the key of its class, with a nonce that a drawer hands
+//! out once. It is stored, read back and opened:
 //!
 //! ```
-//! let (key, nonce) = ([1; 16], [2; 12]);
-//! let (mut ciphertext, mut tag) = ([0; 5], [0; 16]);
-//! vespruldo::slices::seal(&key, &nonce, b"class 7", b"hello", &mut ciphertext, &mut tag)?;
+//! use vespruldo::{open, seal, Drawer, Key, Refusal, Sealed};
 //!
-//! let mut text = [0; 5];
-//! vespruldo::slices::open(&key, &nonce, b"class 7", &ciphertext, &tag, &mut text)?;
-//! assert_eq!(text, *b"hello");
+//! let key = Key::from([1; 16]);
+//! let mut drawer = Drawer::start(7, 0); // the reader's number, and where it had come to
+//! let nonce = drawer.draw()?;
+//! // Here the new `drawer.count()` is written down, before the nonce is used.
+//! let Sealed { nonce, ciphertext, tag } = seal(&key, nonce, b"class 7", b"Anna, desk 4")?;
+//! let stored = [nonce.as_bytes(), &ciphertext[..], tag.as_bytes()].concat();
+//!
+//! let (nonce, rest) = stored.split_at(12);
+//! let (ciphertext, tag) = rest.split_at(rest.len() - 16);
+//! let mut card = Sealed {
+//!     nonce: nonce.try_into()?,
+//!     ciphertext: ciphertext.to_vec(),
+//!     tag: tag.try_into()?,
+//! };
+//! assert_eq!(open(&key, b"class 7", &card)?, b"Anna, desk 4");
+//!
+//! // One bit was changed on the way: the card is refused and there is no text.
+//! card.ciphertext[0] ^= 1;
+//! assert_eq!(open(&key, b"class 7", &card), Err(Refusal::WrongTag));
+//! # Ok::<(), Refusal>(())
+//! ```
+//!
+//! The key can stay in the key book that it stands in:
+//!
+//! ```
+//! use vespruldo::{find_key, seal, Drawer};
+//!
+//! // One entry: class 7 and its key. The other book has none.
+//! let this_term = [&[1, 0, 7, 0][..], &[1; 16]].concat();
+//! let last_term = [0, 0];
+//!
+//! let key = find_key(&this_term, &last_term, 7)?;
+//! let card = seal(key, Drawer::start(7, 0).draw()?, b"class 7", b"Anna, desk 4")?;
 //! # Ok::<(), vespruldo::Refusal>(())
 //! ```
 //!
-//! Its nonce is best drawn from a [`Drawer`], its key looked up by
-//! [`find_key`].
+//! What is refused comes back as a [`Refusal`], with the number and the words of
+//! document 01. The types rule out the rest:
 //!
-//! A block is enciphered and deciphered where it lies:
+//! - A key, nonce, iv or tag has the right length from when it is made.
+//! - A [`Drawer`], a [`Nonce`] and an [`Iv`] cannot be copied, and [`seal`] takes
+//!   its nonce for good: none is used twice by a slip.
+//! - A [`Key`], [`StreamKey`] or [`WideKey`] is not printed or compared, and is
+//!   wiped when dropped.
+//! - There is no text to read where [`open`] refuses.
 //!
-//! ```
-//! let key = [0; 16];
-//! let mut block = [0; 16];
-//!
-//! vespruldo::slices::gift_encipher(&key, &mut block)?;
-//! // The designers print cd0bd738...ceb6ff92, most significant byte first;
-//! // byte 0 is the least significant one.
-//! assert_eq!(block[..4], [0x92, 0xff, 0xb6, 0xce]);
-//! assert_eq!(block[12..], [0x38, 0xd7, 0x0b, 0xcd]);
-//!
-//! vespruldo::slices::gift_decipher(&key, &mut block)?;
-//! assert_eq!(block, [0; 16]);
-//! # Ok::<(), vespruldo::Refusal>(())
-//! ```
+//! The lengths that are allowed have names in [`sizes`]. The functions in
+//! [`slices`] take bytes of every length and write to room that is lent; those at
+//! the root allocate what [`seal`] and [`open`] answer, and nothing else.
 
 // Why the calls into the archive are safe. Each of its functions reads and
 // writes only the buffers it is handed, each within its length, and wants those
@@ -48,9 +68,25 @@
 
 #[doc(hidden)]
 pub mod archive;
+mod blocks;
+mod books;
+mod bytes;
+mod cards;
 mod drawer;
 mod refusal;
+pub mod sizes;
 pub mod slices;
 
+pub use blocks::{chacha20, gift_decipher, gift_encipher, lioness_decipher, lioness_encipher};
+pub use books::find_key;
+pub use bytes::{Iv, Key, Nonce, StreamKey, Tag, WideKey};
+pub use cards::{open, open_short, seal, seal_short, Sealed};
 pub use drawer::Drawer;
 pub use refusal::Refusal;
+#[doc(inline)]
+pub use slices::blake2b;
+
+/// The Rust of README.md, run with the examples here.
+#[cfg(doctest)]
+#[doc = include_str!("../../../README.md")]
+struct Readme;

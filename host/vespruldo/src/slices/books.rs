@@ -2,12 +2,10 @@
 
 use crate::archive::{vespruldo_key_find, Found};
 use crate::refusal::{outcome, Refusal};
+use crate::sizes::KEY_BYTES;
 
 /// What may be refused.
 const PROMISED: [Refusal; 2] = [Refusal::BookForm, Refusal::ClassMissing];
-
-/// The bytes of a key.
-const KEY: usize = 16;
 
 /// Looks the key of `class` up in two key books, this term's and last term's.
 /// The 16 bytes handed back are that part of the book itself; where both books
@@ -46,6 +44,15 @@ pub fn find_key<'a>(
     last_term: &'a [u8],
     class: u16,
 ) -> Result<&'a [u8], Refusal> {
+    find_part(this_term, last_term, class).map(<[u8; KEY_BYTES]>::as_slice)
+}
+
+/// [`find_key`], with the length of what is found in its type.
+pub(crate) fn find_part<'a>(
+    this_term: &'a [u8],
+    last_term: &'a [u8],
+    class: u16,
+) -> Result<&'a [u8; KEY_BYTES], Refusal> {
     // SAFETY: see the crate's root.
     let found = unsafe {
         vespruldo_key_find(
@@ -65,7 +72,11 @@ pub fn find_key<'a>(
 ///
 /// On an answer that the archive does not promise, for any other 16 bytes are
 /// no key of the class.
-fn part<'a>(found: &Found, this_term: &'a [u8], last_term: &'a [u8]) -> Result<&'a [u8], Refusal> {
+fn part<'a>(
+    found: &Found,
+    this_term: &'a [u8],
+    last_term: &'a [u8],
+) -> Result<&'a [u8; KEY_BYTES], Refusal> {
     outcome(found.number, &PROMISED)?;
     let Found { book, offset, .. } = found;
     let lent = match book {
@@ -75,7 +86,7 @@ fn part<'a>(found: &Found, this_term: &'a [u8], last_term: &'a [u8]) -> Result<&
     };
     let key = lent
         .and_then(|lent| lent.get(*offset..))
-        .and_then(|rest| rest.get(..KEY));
+        .and_then(<[u8]>::first_chunk);
     match key {
         Some(key) => Ok(key),
         None => panic!("the archive answered place {offset} of book {book}, where no key can be"),
@@ -95,7 +106,7 @@ mod tests {
             book,
             offset,
         };
-        part(&found, &this_term, &last_term).map(<[u8]>::to_vec)
+        part(&found, &this_term, &last_term).map(|key| key.to_vec())
     }
 
     #[test]

@@ -55,7 +55,8 @@ const PROMISED_SHORT: [Refusal; 6] = [
 /// use vespruldo::Refusal;
 ///
 /// let (mut room, mut tag) = ([7; 11], [7; 16]);
-/// let refused = vespruldo::slices::seal(&[1; 16], &[2; 12], b"", b"Anna, desk 4", &mut room, &mut tag);
+/// let (key, nonce) = ([1; 16], [2; 12]);
+/// let refused = vespruldo::slices::seal(&key, &nonce, b"", b"Anna, desk 4", &mut room, &mut tag);
 /// assert_eq!(refused, Err(Refusal::RoomLength));
 /// assert_eq!((room, tag), ([7; 11], [7; 16]));
 /// ```

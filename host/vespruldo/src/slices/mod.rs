@@ -13,6 +13,7 @@ mod lioness;
 
 pub use blake::blake2b;
 pub use books::find_key;
+pub(crate) use books::find_part;
 pub use chacha::chacha20;
 pub use gift::{gift_decipher, gift_encipher};
 pub use hyena::{open, open_short, seal, seal_short};

@@ -1,0 +1,184 @@
+//! Blocks and texts that are changed where they lie: LIONESS, GIFT-128 and
+//! ChaCha20, with keys, nonces and ivs whose lengths are in their types.
+
+use crate::bytes::{Iv, Key, Nonce, StreamKey, WideKey};
+use crate::refusal::Refusal;
+use crate::sizes::GIFT_BLOCK_BYTES;
+use crate::slices;
+
+/// Enciphers `block`, 33 to 1,048,608 bytes, where it lies by LIONESS. The block
+/// is unchanged if this is refused.
+///
+/// No two blocks may be enciphered under one key and iv: draw each iv from a
+/// [`Drawer`](crate::Drawer), and store it with the block, for deciphering.
+///
+/// ```
+/// use vespruldo::{lioness_decipher, lioness_encipher, Drawer, WideKey};
+///
+/// let key = WideKey::from([1; 128]);
+/// let iv = Drawer::start(7, 0).iv()?;
+/// let plain = *b"forty bytes: a wide block is one of them";
+///
+/// let mut block = plain;
+/// lioness_encipher(&key, &iv, &mut block)?;
+/// assert_ne!(block, plain);
+/// lioness_decipher(&key, &iv, &mut block)?;
+/// assert_eq!(block, plain);
+/// # Ok::<(), vespruldo::Refusal>(())
+/// ```
+///
+/// # Errors
+///
+/// [`Refusal::TextLength`] if the block is not 33 to 1,048,608 bytes long.
+pub fn lioness_encipher(key: &WideKey, iv: &Iv, block: &mut [u8]) -> Result<(), Refusal> {
+    slices::lioness_encipher(key.as_bytes(), iv.as_bytes(), block)
+}
+
+/// Deciphers `block` where it lies by LIONESS: undoes [`lioness_encipher`] under
+/// the same key and iv. There is no tag: under another key or iv, or when it was
+/// changed, the whole block comes out as noise and nothing tells.
+///
+/// ```
+/// use vespruldo::{lioness_decipher, Iv, Refusal, WideKey};
+///
+/// let mut block = [7; 32];
+/// let refused = lioness_decipher(&WideKey::from([1; 128]), &Iv::from([2; 48]), &mut block);
+/// assert_eq!(refused, Err(Refusal::TextLength));
+/// assert_eq!(block, [7; 32]);
+/// ```
+///
+/// # Errors
+///
+/// As for [`lioness_encipher`].
+pub fn lioness_decipher(key: &WideKey, iv: &Iv, block: &mut [u8]) -> Result<(), Refusal> {
+    slices::lioness_decipher(key.as_bytes(), iv.as_bytes(), block)
+}
+
+/// Enciphers `block` where it lies by GIFT-128. Nothing can be refused here.
+///
+/// ```
+/// use vespruldo::{gift_decipher, gift_encipher, Key};
+///
+/// let key = Key::from([0; 16]);
+/// let mut block = [0; 16];
+///
+/// gift_encipher(&key, &mut block);
+/// // The designers print cd0bd738...ceb6ff92, most significant byte first;
+/// // byte 0 is the least significant one.
+/// assert_eq!(block[..4], [0x92, 0xff, 0xb6, 0xce]);
+/// assert_eq!(block[12..], [0x38, 0xd7, 0x0b, 0xcd]);
+///
+/// gift_decipher(&key, &mut block);
+/// assert_eq!(block, [0; 16]);
+/// ```
+pub fn gift_encipher(key: &Key, block: &mut [u8; GIFT_BLOCK_BYTES]) {
+    never_refused(slices::gift_encipher(key.as_bytes(), block));
+}
+
+/// Deciphers `block` where it lies by GIFT-128: undoes [`gift_encipher`].
+/// Nothing can be refused here.
+pub fn gift_decipher(key: &Key, block: &mut [u8; GIFT_BLOCK_BYTES]) {
+    never_refused(slices::gift_decipher(key.as_bytes(), block));
+}
+
+/// Takes the outcome of a call whose types leave nothing to refuse.
+///
+/// # Panics
+///
+/// On a refusal, which the archive then does not promise: what became of the
+/// block, nobody knows.
+fn never_refused(outcome: Result<(), Refusal>) {
+    if let Err(refusal) = outcome {
+        let number = refusal.number();
+        panic!("the archive answered {number}, which these lengths rule out");
+    }
+}
+
+/// Adds ChaCha20's key stream to `text`, at most 1,048,576 bytes, by exclusive
+/// or. The stream's blocks of 64 bytes are counted from `start`. Done twice,
+/// this gives the text back. The text is unchanged if this is refused.
+///
+/// No key, nonce and counter may be used for two texts. There is no tag: who
+/// flips a bit here flips it in the text.
+///
+/// ```
+/// use vespruldo::{chacha20, Drawer, StreamKey};
+///
+/// let key = StreamKey::from([1; 32]);
+/// let nonce = Drawer::start(7, 0).draw()?;
+///
+/// let mut text = *b"Anna, desk 4";
+/// chacha20(&key, &nonce, 0, &mut text)?;
+/// assert_ne!(text, *b"Anna, desk 4");
+/// chacha20(&key, &nonce, 0, &mut text)?;
+/// assert_eq!(text, *b"Anna, desk 4");
+/// # Ok::<(), vespruldo::Refusal>(())
+/// ```
+///
+/// # Errors
+///
+/// [`Refusal::TextLength`] if the text is longer than 1,048,576 bytes; otherwise
+/// [`Refusal::StreamTooLong`] if `start` plus the blocks needed exceeds 2^32.
+pub fn chacha20(
+    key: &StreamKey,
+    nonce: &Nonce,
+    start: u32,
+    text: &mut [u8],
+) -> Result<(), Refusal> {
+    slices::chacha20(key.as_bytes(), nonce.as_bytes(), start, text)
+}
+
+#[cfg(test)]
+mod tests {
+    use super::*;
+    use crate::sizes::{LIONESS_BLOCK_MAX, LIONESS_BLOCK_MIN, TEXT_MAX};
+
+    #[test]
+    #[should_panic(expected = "the archive answered 4, which")]
+    fn a_refusal_ruled_out_is_not_swallowed() {
+        never_refused(Err(Refusal::TextLength));
+    }
+
+    /// A function on a block or text.
+    type Tried<'a> = &'a dyn Fn(&mut [u8]) -> Result<(), Refusal>;
+
+    /// Blocks of these lengths are changed, and of those refused and left.
+    fn try_lens(tried: Tried, allowed: &[usize], refused: &[usize]) {
+        for &len in allowed {
+            let mut block = vec![7; len];
+            assert_eq!(tried(&mut block), Ok(()), "{len}");
+            assert!(block != vec![7; len], "{len}");
+        }
+        for &len in refused {
+            let mut block = vec![7; len];
+            assert_eq!(tried(&mut block), Err(Refusal::TextLength), "{len}");
+            assert!(block == vec![7; len], "{len}");
+        }
+    }
+
+    #[test]
+    fn lengths_are_the_documents() {
+        let (key, iv) = (WideKey::from([1; 128]), Iv::from([2; 48]));
+        let allowed = [LIONESS_BLOCK_MIN, LIONESS_BLOCK_MAX];
+        let refused = [0, LIONESS_BLOCK_MIN - 1, LIONESS_BLOCK_MAX + 1];
+        let encipher: Tried = &|block| lioness_encipher(&key, &iv, block);
+        let decipher: Tried = &|block| lioness_decipher(&key, &iv, block);
+        try_lens(encipher, &allowed, &refused);
+        try_lens(decipher, &allowed, &refused);
+
+        let (key, nonce) = (StreamKey::from([1; 32]), Nonce::from([2; 12]));
+        let stream: Tried = &|text| chacha20(&key, &nonce, 0, text);
+        try_lens(stream, &[16, TEXT_MAX], &[TEXT_MAX + 1]);
+        assert_eq!(stream(&mut []), Ok(()));
+    }
+
+    #[test]
+    fn counter_ends_where_the_document_says() {
+        let (key, nonce) = (StreamKey::from([1; 32]), Nonce::from([2; 12]));
+        let at_the_end = |text: &mut [u8]| chacha20(&key, &nonce, u32::MAX, text);
+        assert_eq!(at_the_end(&mut [7; 64]), Ok(()));
+        let mut text = [7; 65];
+        assert_eq!(at_the_end(&mut text), Err(Refusal::StreamTooLong));
+        assert_eq!(text, [7; 65]);
+    }
+}

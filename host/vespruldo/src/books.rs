@@ -1,0 +1,68 @@
+//! The lookup in two key books, with the key's length in its type.
+
+use crate::bytes::Key;
+use crate::refusal::Refusal;
+use crate::slices;
+
+/// Looks the key of `class` up in two key books, this term's and last term's.
+/// The key handed back is that part of the book itself, not a copy; where both
+/// books have an entry for the class, this term's book wins.
+///
+/// A key book is a count of two bytes, then for each entry a class number of
+/// two bytes and a key of 16, all numbers little-endian. It is well formed when
+/// it has 2 + 18·count bytes and the class numbers strictly rise. Both books are
+/// judged whole before either is searched.
+///
+/// ```
+/// use vespruldo::{find_key, open, seal, Drawer, Refusal};
+///
+/// let entry = |class: u16, key: [u8; 16]| [&class.to_le_bytes()[..], &key].concat();
+/// let this_term = [vec![1, 0], entry(7, [1; 16])].concat();
+/// let last_term = [vec![2, 0], entry(7, [2; 16]), entry(300, [3; 16])].concat();
+///
+/// let key = find_key(&this_term, &last_term, 7)?;
+/// assert_eq!(key.as_bytes(), &[1; 16]);
+/// let sealed = seal(key, Drawer::start(7, 0).draw()?, b"class 7", b"Anna, desk 4")?;
+/// assert_eq!(open(key, b"class 7", &sealed)?, b"Anna, desk 4");
+///
+/// let missing = find_key(&this_term, &last_term, 8);
+/// assert_eq!(missing.err(), Some(Refusal::ClassMissing));
+/// # Ok::<(), Refusal>(())
+/// ```
+///
+/// # Errors
+///
+/// The first of these that applies: [`Refusal::BookForm`] if either book is
+/// badly formed, [`Refusal::ClassMissing`] if neither has an entry for the
+/// class.
+pub fn find_key<'a>(
+    this_term: &'a [u8],
+    last_term: &'a [u8],
+    class: u16,
+) -> Result<&'a Key, Refusal> {
+    slices::find_part(this_term, last_term, class).map(Key::from_ref)
+}
+
+#[cfg(test)]
+mod tests {
+    use super::*;
+
+    #[test]
+    fn key_is_the_part_of_the_book_itself() {
+        let this_term = [&[1, 0, 7, 0][..], &[1; 16]].concat();
+        let last_term = [&[1, 0, 9, 0][..], &[2; 16]].concat();
+        for (class, book) in [(7, &this_term), (9, &last_term)] {
+            let key = find_key(&this_term, &last_term, class).expect("a key");
+            assert_eq!(key.as_bytes().as_ptr(), book[4..].as_ptr());
+        }
+        // What was lent is not wiped.
+        assert_eq!((this_term[4], last_term[4]), (1, 2));
+    }
+
+    #[test]
+    fn refusals_are_passed_on() {
+        let refused = |this, class| find_key(this, &[0, 0], class).err();
+        assert_eq!(refused(&[0, 0], 7), Some(Refusal::ClassMissing));
+        assert_eq!(refused(&[0], 7), Some(Refusal::BookForm));
+    }
+}

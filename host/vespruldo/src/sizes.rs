@@ -1,0 +1,34 @@
+//! The lengths in bytes of document 01, by the names of the C header without
+//! its prefix: `_BYTES` is the one that is allowed, `_MIN` and `_MAX` are the
+//! least and the greatest.
+
+/// Key of sealing, opening and GIFT-128.
+pub const KEY_BYTES: usize = 16;
+/// Nonce of sealing and opening.
+pub const NONCE_BYTES: usize = 12;
+/// Tag of sealing and opening.
+pub const TAG_BYTES: usize = 16;
+/// Associated data of sealing and opening.
+pub const DATA_MAX: usize = 65_536;
+/// Text of sealing, ChaCha20 and BLAKE2b, and ciphertext.
+pub const TEXT_MAX: usize = 1_048_576;
+/// Block of GIFT-128.
+pub const GIFT_BLOCK_BYTES: usize = 16;
+/// Key of ChaCha20.
+pub const CHACHA20_KEY_BYTES: usize = 32;
+/// Nonce of ChaCha20.
+pub const CHACHA20_NONCE_BYTES: usize = 12;
+/// Key of BLAKE2b; an empty one is no key.
+pub const BLAKE2B_KEY_MAX: usize = 64;
+/// Shortest digest of BLAKE2b.
+pub const BLAKE2B_DIGEST_MIN: usize = 1;
+/// Longest digest of BLAKE2b.
+pub const BLAKE2B_DIGEST_MAX: usize = 64;
+/// Key of LIONESS.
+pub const LIONESS_KEY_BYTES: usize = 128;
+/// Iv of LIONESS.
+pub const LIONESS_IV_BYTES: usize = 48;
+/// Shortest block of LIONESS.
+pub const LIONESS_BLOCK_MIN: usize = 33;
+/// Longest block of LIONESS.
+pub const LIONESS_BLOCK_MAX: usize = 1_048_608;
