@@ -2,31 +2,10 @@
 
 mod common;
 
-use common::{number, up_to, Pair, LONGEST_TEXT};
-use second::blake;
+use common::pairs::blake2b as digest;
+use common::{number, up_to, LONGEST_TEXT};
 use second::cases::blake::{self_test, PUBLISHED, SELF_TEST};
 use second::random::Random;
-
-fn expected_number([key_len, text_len]: [usize; 2], [room_len]: [usize; 1]) -> u32 {
-    if key_len > 64 {
-        1
-    } else if text_len > LONGEST_TEXT {
-        4
-    } else if !(1..=64).contains(&room_len) {
-        6
-    } else {
-        0
-    }
-}
-
-fn digest() -> Pair<2, 1> {
-    Pair::new(
-        "digest",
-        |[key, text], [room]| number(vespruldo::slices::blake2b(key, text, room)),
-        |[key, text], [room]| blake::digest(key, text, room),
-        expected_number,
-    )
-}
 
 /// Lengths at the borders of words and blocks.
 const TEXT_LENGTHS: [usize; 18] = [

@@ -4,53 +4,15 @@ mod common;
 
 use std::collections::BTreeSet;
 
-use common::{number, up_to, with_flip, Guarded};
-use second::books::{self, Found};
+use common::books::{book, compare, raw_find, with_count, Books};
+use common::{up_to, with_flip, Guarded};
+use second::books::Found;
 use second::random::Random;
-// The archive's function itself: the safe one does not show what is answered
-// beside a refusal.
-use vespruldo::archive;
-
-/// This term's book and last term's.
-type Books<'a> = [&'a [u8]; 2];
 
 /// The well-formed book without entries.
 const EMPTY: [u8; 2] = [0, 0];
 
-/// What the archive answers.
-fn raw_find([this, last]: Books, class: u16) -> Found {
-    // SAFETY: both books are lent for the whole call and only read.
-    let archive::Found {
-        number,
-        book,
-        offset,
-    } = unsafe {
-        archive::vespruldo_key_find(this.as_ptr(), this.len(), last.as_ptr(), last.len(), class)
-    };
-    Found {
-        number,
-        book,
-        offset,
-    }
-}
-
-/// Both look the class up, and all that is answered agrees.
-fn compare(books: Books, class: u16) -> Found {
-    let [this, last] = books;
-    let case = || format!("class {class} in {} and {} bytes", this.len(), last.len());
-    let found = books::find(this, last, class);
-    assert_eq!(raw_find(books, class), found, "{}", case());
-    let key = vespruldo::slices::find_key(this, last, class);
-    assert_eq!(number(key), found.number, "{}", case());
-    if let Ok(key) = key {
-        // By address: the same bytes elsewhere are not that part of the book.
-        let there = &books[found.book as usize][found.offset..found.offset + 16];
-        assert_eq!(key.as_ptr_range(), there.as_ptr_range(), "{}", case());
-    }
-    found
-}
-
-/// The same for each class in copies of the books with guards. Nothing there
+/// Both look each class up in copies of the books with guards. Nothing there
 /// changes.
 fn compare_all(books: Books, classes: impl IntoIterator<Item = u16>) -> Vec<Found> {
     let mut lent = books.map(Guarded::around);
@@ -86,23 +48,6 @@ fn refuse_form(bad: &[u8], good: &[u8], classes: &[u16]) {
     for books in [[bad, good], [good, bad], [bad, bad]] {
         refuse(10, books, classes);
     }
-}
-
-/// The book with these classes, well formed if they strictly rise, and
-/// random-looking keys.
-fn book(random: &mut Random, classes: &[u16]) -> Vec<u8> {
-    let count = u16::try_from(classes.len()).expect("a count of two bytes");
-    let mut book = count.to_le_bytes().to_vec();
-    for class in classes {
-        book.extend(class.to_le_bytes());
-        book.extend(random.sixteen());
-    }
-    book
-}
-
-/// The book with another count and the same bytes otherwise.
-fn with_count(book: &[u8], count: u16) -> Vec<u8> {
-    [&count.to_le_bytes(), &book[2..]].concat()
 }
 
 /// Random-looking classes below `end` in rising order, `len` of them or, where

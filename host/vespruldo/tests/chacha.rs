@@ -2,34 +2,10 @@
 
 mod common;
 
-use common::{number, up_to, Pair, LONGEST_TEXT};
+use common::pairs::chacha20 as stream_from;
+use common::{up_to, LONGEST_TEXT};
 use second::cases::chacha::PUBLISHED;
-use second::chacha;
 use second::random::Random;
-
-fn expected_number([key_len, nonce_len]: [usize; 2], start: u32, text_len: usize) -> u32 {
-    if key_len != 32 {
-        1
-    } else if nonce_len != 12 {
-        2
-    } else if text_len > LONGEST_TEXT {
-        4
-    } else if u64::from(start) + text_len.div_ceil(64) as u64 > 1 << 32 {
-        8
-    } else {
-        0
-    }
-}
-
-/// The key stream from this counter on.
-fn stream_from(start: u32) -> Pair<2, 1> {
-    Pair::new(
-        format!("start {start:#x}"),
-        move |[key, nonce], [text]| number(vespruldo::slices::chacha20(key, nonce, start, text)),
-        move |[key, nonce], [text]| chacha::stream(key, nonce, start, text),
-        move |read_lens, [text_len]| expected_number(read_lens, start, text_len),
-    )
-}
 
 /// The last start from which `blocks` blocks are not refused, 1 or more.
 fn last_start(blocks: usize) -> u32 {

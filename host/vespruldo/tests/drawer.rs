@@ -64,8 +64,8 @@ impl Taken {
     /// What the safe function answers.
     fn safe(self, drawer: &mut Drawer) -> Result<Vec<u8>, Refusal> {
         match self {
-            Taken::Draw => drawer.draw().map(Vec::from),
-            Taken::Iv => drawer.iv().map(Vec::from),
+            Taken::Draw => drawer.draw().map(|nonce| nonce.as_bytes().to_vec()),
+            Taken::Iv => drawer.iv().map(|iv| iv.as_bytes().to_vec()),
         }
     }
 
@@ -193,8 +193,8 @@ fn zeros_are_told_apart_by_the_number() {
             assert_eq!(taken.raw(reader, u64::MAX), refused);
         }
     }
-    assert_eq!(Drawer::start(0, 0).draw(), Ok([0; 12]));
-    assert_eq!(Drawer::start(0, 0).iv(), Ok([0; 48]));
+    assert_eq!(Drawer::start(0, 0).draw(), Ok([0; 12].into()));
+    assert_eq!(Drawer::start(0, 0).iv(), Ok([0; 48].into()));
 }
 
 /// A drawer holds nothing but its two numbers: started again from a count that

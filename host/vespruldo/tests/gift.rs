@@ -2,39 +2,11 @@
 
 mod common;
 
-use common::{number, with_flip, Pair};
+use common::pairs::{gift_decipher as decipher, gift_encipher as encipher};
+use common::with_flip;
 use second::cases::gift::{extremes, PUBLISHED};
-use second::gift;
 use second::lines::{field, Order};
 use second::random::Random;
-
-fn expected_number([key_len]: [usize; 1], [block_len]: [usize; 1]) -> u32 {
-    if key_len != 16 {
-        1
-    } else if block_len != 16 {
-        4
-    } else {
-        0
-    }
-}
-
-fn encipher() -> Pair<1, 1> {
-    Pair::new(
-        "encipher",
-        |[key], [block]| number(vespruldo::slices::gift_encipher(key, block)),
-        |[key], [block]| gift::encipher(key, block),
-        expected_number,
-    )
-}
-
-fn decipher() -> Pair<1, 1> {
-    Pair::new(
-        "decipher",
-        |[key], [block]| number(vespruldo::slices::gift_decipher(key, block)),
-        |[key], [block]| gift::decipher(key, block),
-        expected_number,
-    )
-}
 
 #[test]
 fn all_lengths_agree_and_nothing_else_changes() {

@@ -4,83 +4,9 @@ mod common;
 
 use std::collections::BTreeSet;
 
-use common::{number, up_to, with_flip, Pair, LONGEST_TEXT};
-use second::hyena;
+use common::pairs::{judged, open, open_short, seal, seal_short};
+use common::{number, up_to, with_flip, LONGEST_DATA, LONGEST_TEXT};
 use second::random::Random;
-
-const LONGEST_DATA: usize = 65_536;
-
-/// The number for these lengths: the place, counted from 1, of the first that
-/// is not allowed, or 0.
-fn judged([key, nonce, data, text, tag, room]: [usize; 6]) -> u32 {
-    let wrong = [
-        key != 16,
-        nonce != 12,
-        data > LONGEST_DATA,
-        text > LONGEST_TEXT,
-        tag != 16,
-        room < text,
-    ];
-    let first = (1..).zip(wrong).find(|(_, wrong)| *wrong);
-    first.map_or(0, |(number, _)| number)
-}
-
-/// The number for these lengths in opening, where the tag is not the recomputed
-/// one. Of random-looking bytes none ever is.
-fn judged_with_wrong_tag(lens: [usize; 6]) -> u32 {
-    match judged(lens) {
-        0 => 7,
-        refusal => refusal,
-    }
-}
-
-fn seal() -> Pair<4, 2> {
-    Pair::new(
-        "seal",
-        |[key, nonce, data, text], [room, tag]| {
-            number(vespruldo::slices::seal(key, nonce, data, text, room, tag))
-        },
-        |[key, nonce, data, text], [room, tag]| hyena::seal(key, nonce, data, text, room, tag),
-        |[key, nonce, data, text], [room, tag]| judged([key, nonce, data, text, tag, room]),
-    )
-}
-
-fn open() -> Pair<5, 1> {
-    Pair::new(
-        "open",
-        |[key, nonce, data, text, tag], [room]| {
-            number(vespruldo::slices::open(key, nonce, data, text, tag, room))
-        },
-        |[key, nonce, data, text, tag], [room]| hyena::open(key, nonce, data, text, tag, room),
-        |[key, nonce, data, text, tag], [room]| {
-            judged_with_wrong_tag([key, nonce, data, text, tag, room])
-        },
-    )
-    .zeroing(|[_, _, _, text, _]| text)
-}
-
-fn seal_short() -> Pair<3, 2> {
-    Pair::new(
-        "seal_short",
-        |[key, nonce, text], [room, tag]| {
-            number(vespruldo::slices::seal_short(key, nonce, text, room, tag))
-        },
-        |[key, nonce, text], [room, tag]| hyena::seal_short(key, nonce, text, room, tag),
-        |[key, nonce, text], [room, tag]| judged([key, nonce, 0, text, tag, room]),
-    )
-}
-
-fn open_short() -> Pair<4, 1> {
-    Pair::new(
-        "open_short",
-        |[key, nonce, text, tag], [room]| {
-            number(vespruldo::slices::open_short(key, nonce, text, tag, room))
-        },
-        |[key, nonce, text, tag], [room]| hyena::open_short(key, nonce, text, tag, room),
-        |[key, nonce, text, tag], [room]| judged_with_wrong_tag([key, nonce, 0, text, tag, room]),
-    )
-    .zeroing(|[_, _, text, _]| text)
-}
 
 /// All four on random-looking bytes of these lengths; the short forms, which
 /// take no data, where the data is empty.

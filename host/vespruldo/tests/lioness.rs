@@ -2,41 +2,9 @@
 
 mod common;
 
-use common::{number, up_to, Pair};
-use second::lioness;
+use common::pairs::{lioness_decipher as decipher, lioness_encipher as encipher};
+use common::{number, up_to, LONGEST_BLOCK};
 use second::random::Random;
-
-const LONGEST_BLOCK: usize = 1_048_608;
-
-fn expected_number([key_len, iv_len]: [usize; 2], [block_len]: [usize; 1]) -> u32 {
-    if key_len != 128 {
-        1
-    } else if iv_len != 48 {
-        2
-    } else if !(33..=LONGEST_BLOCK).contains(&block_len) {
-        4
-    } else {
-        0
-    }
-}
-
-fn encipher() -> Pair<2, 1> {
-    Pair::new(
-        "encipher",
-        |[key, iv], [block]| number(vespruldo::slices::lioness_encipher(key, iv, block)),
-        |[key, iv], [block]| lioness::encipher(key, iv, block),
-        expected_number,
-    )
-}
-
-fn decipher() -> Pair<2, 1> {
-    Pair::new(
-        "decipher",
-        |[key, iv], [block]| number(vespruldo::slices::lioness_decipher(key, iv, block)),
-        |[key, iv], [block]| lioness::decipher(key, iv, block),
-        expected_number,
-    )
-}
 
 /// Lengths at the borders of what is allowed, and of ChaCha20's and BLAKE2b's
 /// blocks in the part from byte 32 on.

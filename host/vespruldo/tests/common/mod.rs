@@ -3,11 +3,16 @@
 // Each file of tests is a program of its own and uses its part of this.
 #![allow(dead_code)]
 
+pub mod books;
+pub mod pairs;
+
 use second::random::Random;
 use vespruldo::Refusal;
 
-/// The longest text that document 01 allows.
+// The longest that document 01 allows: associated data, a text, a wide block.
+pub const LONGEST_DATA: usize = 65_536;
 pub const LONGEST_TEXT: usize = 1_048_576;
+pub const LONGEST_BLOCK: usize = 1_048_608;
 
 /// The document's number for an outcome. The safe functions take every number
 /// to an outcome of its own or panic, so nothing is lost.
@@ -39,10 +44,17 @@ impl Guarded {
     const GUARD: usize = 160;
 
     /// A lent part with random bytes, at one of sixteen alignments.
-    fn new(random: &mut Random, len: usize) -> Guarded {
+    pub fn new(random: &mut Random, len: usize) -> Guarded {
         let start = Guarded::GUARD + up_to(random, 15);
         let whole = random.bytes(start + len + Guarded::GUARD);
         Guarded { whole, start, len }
+    }
+
+    /// The same with these bytes in the lent part.
+    pub fn holding(random: &mut Random, bytes: &[u8]) -> Guarded {
+        let mut guarded = Guarded::new(random, bytes.len());
+        guarded.lent().copy_from_slice(bytes);
+        guarded
     }
 
     /// A lent part with these bytes.
@@ -99,7 +111,7 @@ impl<const R: usize, const W: usize> Pair<R, W> {
 
     /// Runs both on the same bytes and compares the number and all bytes,
     /// guards too. A refusal must leave what the document says.
-    fn run(&self, mut read: [Guarded; R], before: [Guarded; W]) -> (u32, [Guarded; W]) {
+    pub fn run(&self, mut read: [Guarded; R], before: [Guarded; W]) -> (u32, [Guarded; W]) {
         let read_lens = read.each_ref().map(|buffer| buffer.len);
         let lens = before.each_ref().map(|buffer| buffer.len);
         let case = format!("{}, reads {read_lens:?}, works in {lens:?}", self.name);
@@ -137,14 +149,15 @@ impl<const R: usize, const W: usize> Pair<R, W> {
         assert_eq!(refusal, number, "{}", self.name);
     }
 
-    /// Runs both on random-looking buffers with guards and compares the number
-    /// and all bytes.
-    pub fn compare(&self, random: &mut Random, read_lens: [usize; R], lens: [usize; W]) {
+    /// Runs both on random-looking buffers with guards and compares the number,
+    /// which is answered, and all bytes.
+    pub fn compare(&self, random: &mut Random, read_lens: [usize; R], lens: [usize; W]) -> u32 {
         let read = read_lens.map(|len| Guarded::new(random, len));
         let before = lens.map(|len| Guarded::new(random, len));
         let (number, _) = self.run(read, before);
         let expected = (self.expected)(read_lens, lens);
         assert_eq!(number, expected, "{} {read_lens:?} {lens:?}", self.name);
+        number
     }
 
     /// The same where the number is known beforehand.

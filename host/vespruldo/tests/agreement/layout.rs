@@ -1,0 +1,124 @@
+//! Layouts and numbers as the C compiler sees them, beside those of Rust.
+
+use std::collections::BTreeMap;
+use std::fs;
+use std::mem::{align_of, offset_of, size_of};
+use std::path::{Path, PathBuf};
+
+use vespruldo::archive::{Drawer, Drawn, Found};
+
+use crate::c::{c_name, Header};
+use crate::model::differences;
+use crate::tokens::number;
+use crate::tools::{command, run};
+
+/// By the name in C: of a struct its size and alignment, of a field its offset
+/// and size.
+type Layouts = BTreeMap<String, [u64; 2]>;
+
+/// A program that prints a line for each struct, field and number of the
+/// header.
+fn program(header: &Header) -> String {
+    let mut before = String::from("#include <stdio.h>\n#include \"vespruldo.h\"\n");
+    let mut body = String::new();
+    let mut print = |name: &str, values: &[String]| {
+        body += &format!("    printf(\"{name}{}\\n\"", " %lu".repeat(values.len()));
+        for value in values {
+            body += &format!(", (unsigned long)({value})");
+        }
+        body += ");\n";
+    };
+    for (name, fields) in &header.structs {
+        let name = c_name(name);
+        // C99 has no word for the alignment: it is where the struct lies after
+        // a single byte.
+        before += &format!("struct after_{name} {{ char byte; {name} it; }};\n");
+        let align = format!("offsetof(struct after_{name}, it)");
+        print(&name, &[format!("sizeof({name})"), align]);
+        for (field, _) in fields {
+            let offset = format!("offsetof({name}, {field})");
+            let size = format!("sizeof((({name} *)0)->{field})");
+            print(&format!("{name}.{field}"), &[offset, size]);
+        }
+    }
+    for name in header.numbers.keys() {
+        print(name, &[name.to_string()]);
+    }
+    format!("{before}int main(void)\n{{\n{body}    return 0;\n}}\n")
+}
+
+/// What the program prints when it is compiled with this header. `folder` keeps
+/// apart the files of tests that run at the same time. Where tests are built for
+/// another machine, `CC` names its compiler and `VESPRULDO_RUNNER` what runs its
+/// programs.
+fn printed(text: &str, header: &Header, folder: &str) -> String {
+    let dir: PathBuf = Path::new(env!("CARGO_TARGET_TMPDIR")).join(folder);
+    fs::create_dir_all(&dir).expect("a folder for the program");
+    fs::write(dir.join("vespruldo.h"), text).expect("the header");
+    fs::write(dir.join("layout.c"), program(header)).expect("the program");
+    let in_dir = |name: &str| dir.join(name).display().to_string();
+    let mut compile = command("CC", "cc");
+    compile
+        .extend(["-std=c99", "-Wall", "-Wextra", "-Werror", "-pedantic", "-o"].map(String::from));
+    compile.extend(["layout", "layout.c"].map(in_dir));
+    run(&compile);
+    let mut start = command("VESPRULDO_RUNNER", "");
+    start.push(in_dir("layout"));
+    run(&start)
+}
+
+fn size_of_field<S, F>(_: fn(&S) -> &F) -> u64 {
+    size_of::<F>() as u64
+}
+
+/// The entries of a struct and of its fields.
+macro_rules! layouts {
+    ($name:literal, $type:ty, $($field:ident)*) => {
+        [
+            ($name.to_string(), [size_of::<$type>() as u64, align_of::<$type>() as u64]),
+            $((
+                concat!($name, ".", stringify!($field)).to_string(),
+                [
+                    offset_of!($type, $field) as u64,
+                    size_of_field(|whole: &$type| &whole.$field),
+                ],
+            ),)*
+        ]
+    };
+}
+
+fn layouts_in_rust() -> Layouts {
+    let mut all = Layouts::new();
+    all.extend(layouts!("vespruldo_drawer", Drawer, reader count));
+    all.extend(layouts!("vespruldo_drawn", Drawn<12>, number bytes next));
+    all.extend(layouts!("vespruldo_drawn_iv", Drawn<48>, number bytes next));
+    all.extend(layouts!("vespruldo_found", Found, number book offset));
+    all
+}
+
+/// Where the C compiler with this header and Rust, or the C compiler and the
+/// reading of the header, do not agree.
+pub fn disagreements(text: &str, folder: &str) -> Vec<String> {
+    let header = Header::of(text);
+    let mut layouts = Layouts::new();
+    let mut numbers = BTreeMap::new();
+    for line in printed(text, &header, folder).lines() {
+        let words: Vec<&str> = line.split(' ').collect();
+        match words[..] {
+            [name, value] => {
+                numbers.insert(name.to_string(), number(value));
+            }
+            [name, first, second] => {
+                let values = [first, second].map(number);
+                layouts.insert(name.to_string(), values);
+            }
+            _ => panic!("not understood: {line}"),
+        }
+    }
+    let mut all = differences([("C", &layouts), ("Rust", &layouts_in_rust())]);
+    all.extend(differences([
+        ("C", &numbers),
+        ("the header", &header.numbers),
+    ]));
+    all
+}

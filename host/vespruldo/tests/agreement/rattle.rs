@@ -1,0 +1,54 @@
+//! The functions that the Rattle source exports.
+
+use crate::model::{declare, Function, Functions, Kind};
+use crate::tokens::Tokens;
+
+/// The functions of a file that has nothing but them and what they use.
+pub fn functions(text: &str) -> Functions {
+    let mut functions = Functions::new();
+    let mut tokens = Tokens::of(text);
+    while !tokens.at_end() {
+        if tokens.take("ghost") || tokens.peek() == "use" {
+            tokens.expect("use");
+            tokens.skip_through(";");
+            continue;
+        }
+        tokens.expect("# [ no_mangle ] pub extern \"C\" fn");
+        let name = tokens.name();
+        let parameters = parameters(tokens.group());
+        tokens.expect("- >");
+        let result = kind(&mut tokens);
+        // The promise, then the body.
+        tokens.expect("ensures");
+        tokens.skip_group();
+        tokens.skip_group();
+        declare(&mut functions, name, Function { parameters, result });
+    }
+    functions
+}
+
+fn parameters(mut tokens: Tokens) -> Vec<Kind> {
+    let mut parameters = Vec::new();
+    while !tokens.at_end() {
+        tokens.name();
+        tokens.expect(":");
+        parameters.push(kind(&mut tokens));
+        assert!(tokens.take(",") || tokens.at_end(), "{}", tokens.here());
+    }
+    parameters
+}
+
+fn kind(tokens: &mut Tokens) -> Kind {
+    if tokens.take("&") {
+        let written = tokens.take("mut");
+        tokens.expect("[ u8 ]");
+        return if written { Kind::Written } else { Kind::Read };
+    }
+    match tokens.name().as_str() {
+        "u16" => Kind::U16,
+        "u32" => Kind::U32,
+        "u64" => Kind::U64,
+        name @ ("Drawer" | "Drawn" | "DrawnIv" | "Found") => Kind::Struct(name.to_string()),
+        other => panic!("not understood: the type {other}"),
+    }
+}

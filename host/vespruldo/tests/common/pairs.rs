@@ -1,0 +1,178 @@
+//! The archive's functions that answer a number, each beside the same function
+//! of the second implementation.
+
+use second::{blake, chacha, gift, hyena, lioness};
+use vespruldo::slices;
+
+use super::{number, Pair, LONGEST_BLOCK, LONGEST_DATA, LONGEST_TEXT};
+
+/// The number for these lengths: the place, counted from 1, of the first that
+/// is not allowed, or 0.
+pub fn judged([key, nonce, data, text, tag, room]: [usize; 6]) -> u32 {
+    let wrong = [
+        key != 16,
+        nonce != 12,
+        data > LONGEST_DATA,
+        text > LONGEST_TEXT,
+        tag != 16,
+        room < text,
+    ];
+    let first = (1..).zip(wrong).find(|(_, wrong)| *wrong);
+    first.map_or(0, |(number, _)| number)
+}
+
+/// The number for these lengths in opening, where the tag is not the recomputed
+/// one. Of random-looking bytes none ever is.
+fn judged_with_wrong_tag(lens: [usize; 6]) -> u32 {
+    match judged(lens) {
+        0 => 7,
+        refusal => refusal,
+    }
+}
+
+pub fn seal() -> Pair<4, 2> {
+    Pair::new(
+        "seal",
+        |[key, nonce, data, text], [room, tag]| {
+            number(slices::seal(key, nonce, data, text, room, tag))
+        },
+        |[key, nonce, data, text], [room, tag]| hyena::seal(key, nonce, data, text, room, tag),
+        |[key, nonce, data, text], [room, tag]| judged([key, nonce, data, text, tag, room]),
+    )
+}
+
+pub fn open() -> Pair<5, 1> {
+    Pair::new(
+        "open",
+        |[key, nonce, data, text, tag], [room]| {
+            number(slices::open(key, nonce, data, text, tag, room))
+        },
+        |[key, nonce, data, text, tag], [room]| hyena::open(key, nonce, data, text, tag, room),
+        |[key, nonce, data, text, tag], [room]| {
+            judged_with_wrong_tag([key, nonce, data, text, tag, room])
+        },
+    )
+    .zeroing(|[_, _, _, text, _]| text)
+}
+
+pub fn seal_short() -> Pair<3, 2> {
+    Pair::new(
+        "seal_short",
+        |[key, nonce, text], [room, tag]| number(slices::seal_short(key, nonce, text, room, tag)),
+        |[key, nonce, text], [room, tag]| hyena::seal_short(key, nonce, text, room, tag),
+        |[key, nonce, text], [room, tag]| judged([key, nonce, 0, text, tag, room]),
+    )
+}
+
+pub fn open_short() -> Pair<4, 1> {
+    Pair::new(
+        "open_short",
+        |[key, nonce, text, tag], [room]| number(slices::open_short(key, nonce, text, tag, room)),
+        |[key, nonce, text, tag], [room]| hyena::open_short(key, nonce, text, tag, room),
+        |[key, nonce, text, tag], [room]| judged_with_wrong_tag([key, nonce, 0, text, tag, room]),
+    )
+    .zeroing(|[_, _, text, _]| text)
+}
+
+fn judged_gift([key_len]: [usize; 1], [block_len]: [usize; 1]) -> u32 {
+    if key_len != 16 {
+        1
+    } else if block_len != 16 {
+        4
+    } else {
+        0
+    }
+}
+
+pub fn gift_encipher() -> Pair<1, 1> {
+    Pair::new(
+        "gift_encipher",
+        |[key], [block]| number(slices::gift_encipher(key, block)),
+        |[key], [block]| gift::encipher(key, block),
+        judged_gift,
+    )
+}
+
+pub fn gift_decipher() -> Pair<1, 1> {
+    Pair::new(
+        "gift_decipher",
+        |[key], [block]| number(slices::gift_decipher(key, block)),
+        |[key], [block]| gift::decipher(key, block),
+        judged_gift,
+    )
+}
+
+fn judged_chacha20([key_len, nonce_len]: [usize; 2], start: u32, text_len: usize) -> u32 {
+    if key_len != 32 {
+        1
+    } else if nonce_len != 12 {
+        2
+    } else if text_len > LONGEST_TEXT {
+        4
+    } else if u64::from(start) + text_len.div_ceil(64) as u64 > 1 << 32 {
+        8
+    } else {
+        0
+    }
+}
+
+/// The key stream from this counter on.
+pub fn chacha20(start: u32) -> Pair<2, 1> {
+    Pair::new(
+        format!("chacha20, start {start:#x}"),
+        move |[key, nonce], [text]| number(slices::chacha20(key, nonce, start, text)),
+        move |[key, nonce], [text]| chacha::stream(key, nonce, start, text),
+        move |read_lens, [text_len]| judged_chacha20(read_lens, start, text_len),
+    )
+}
+
+fn judged_blake2b([key_len, text_len]: [usize; 2], [room_len]: [usize; 1]) -> u32 {
+    if key_len > 64 {
+        1
+    } else if text_len > LONGEST_TEXT {
+        4
+    } else if !(1..=64).contains(&room_len) {
+        6
+    } else {
+        0
+    }
+}
+
+pub fn blake2b() -> Pair<2, 1> {
+    Pair::new(
+        "blake2b",
+        |[key, text], [room]| number(slices::blake2b(key, text, room)),
+        |[key, text], [room]| blake::digest(key, text, room),
+        judged_blake2b,
+    )
+}
+
+fn judged_lioness([key_len, iv_len]: [usize; 2], [block_len]: [usize; 1]) -> u32 {
+    if key_len != 128 {
+        1
+    } else if iv_len != 48 {
+        2
+    } else if !(33..=LONGEST_BLOCK).contains(&block_len) {
+        4
+    } else {
+        0
+    }
+}
+
+pub fn lioness_encipher() -> Pair<2, 1> {
+    Pair::new(
+        "lioness_encipher",
+        |[key, iv], [block]| number(slices::lioness_encipher(key, iv, block)),
+        |[key, iv], [block]| lioness::encipher(key, iv, block),
+        judged_lioness,
+    )
+}
+
+pub fn lioness_decipher() -> Pair<2, 1> {
+    Pair::new(
+        "lioness_decipher",
+        |[key, iv], [block]| number(slices::lioness_decipher(key, iv, block)),
+        |[key, iv], [block]| lioness::decipher(key, iv, block),
+        judged_lioness,
+    )
+}

@@ -1,0 +1,466 @@
+//! A million short random cases over all entry points of the archive beside the
+//! second implementation, from many threads at once, each on buffers of its own.
+
+mod common;
+
+use std::collections::BTreeMap;
+use std::panic;
+use std::sync::Barrier;
+use std::thread;
+
+use common::books::{self, book, with_count};
+use common::pairs::{self, judged};
+use common::{up_to, with_flip, Guarded, Pair, LONGEST_BLOCK, LONGEST_DATA, LONGEST_TEXT};
+use second::random::Random;
+use second::{drawer, hyena};
+use vespruldo::archive;
+
+const CASES: u64 = 1_000_000;
+const THREADS: u64 = 16;
+const FIRST_SEED: u64 = 2000;
+
+#[derive(Clone, Copy, Debug, PartialEq, Eq, PartialOrd, Ord)]
+enum Entry {
+    Seal,
+    Open,
+    SealShort,
+    OpenShort,
+    GiftEncipher,
+    GiftDecipher,
+    ChaCha20,
+    Blake2b,
+    LionessEncipher,
+    LionessDecipher,
+    DrawerStart,
+    DrawerDraw,
+    DrawerIv,
+    KeyFind,
+}
+
+/// Each entry point, how many of a thousand cases are its own, and the numbers
+/// that it answers (document 01, What comes back).
+const ENTRIES: [(Entry, usize, &[u32]); 14] = [
+    (Entry::Seal, 70, &[0, 1, 2, 3, 4, 5, 6]),
+    (Entry::Open, 90, &[0, 1, 2, 3, 4, 5, 6, 7]),
+    (Entry::SealShort, 50, &[0, 1, 2, 4, 5, 6]),
+    (Entry::OpenShort, 70, &[0, 1, 2, 4, 5, 6, 7]),
+    (Entry::GiftEncipher, 50, &[0, 1, 4]),
+    (Entry::GiftDecipher, 50, &[0, 1, 4]),
+    (Entry::ChaCha20, 120, &[0, 1, 2, 4, 8]),
+    (Entry::Blake2b, 100, &[0, 1, 4, 6]),
+    (Entry::LionessEncipher, 60, &[0, 1, 2, 4]),
+    (Entry::LionessDecipher, 60, &[0, 1, 2, 4]),
+    (Entry::DrawerStart, 40, &[0]),
+    (Entry::DrawerDraw, 70, &[0, 9]),
+    (Entry::DrawerIv, 70, &[0, 9]),
+    (Entry::KeyFind, 100, &[0, 10, 11]),
+];
+
+impl Entry {
+    fn random(random: &mut Random) -> Entry {
+        let mut place = up_to(random, 999);
+        for (entry, share, _) in ENTRIES {
+            if place < share {
+                return entry;
+            }
+            place -= share;
+        }
+        panic!("the shares of the entry points are less than a thousand");
+    }
+}
+
+/// What document 01, Sizes, allows as the length of a buffer.
+#[derive(Clone, Copy)]
+enum Size {
+    Exactly(usize),
+    Between(usize, usize),
+    /// At least the length of the buffer that stands at this place.
+    Room(usize),
+}
+
+const TEXT: Size = Size::Between(0, LONGEST_TEXT);
+
+/// Key, nonce, associated data, text, tag and room.
+const HYENA: [Size; 6] = [
+    Size::Exactly(16),
+    Size::Exactly(12),
+    Size::Between(0, LONGEST_DATA),
+    TEXT,
+    Size::Exactly(16),
+    Size::Room(3),
+];
+
+/// The same without data.
+const HYENA_SHORT: [Size; 5] = [
+    Size::Exactly(16),
+    Size::Exactly(12),
+    TEXT,
+    Size::Exactly(16),
+    Size::Room(2),
+];
+
+const GIFT: [Size; 2] = [Size::Exactly(16), Size::Exactly(16)];
+const CHACHA20: [Size; 3] = [Size::Exactly(32), Size::Exactly(12), TEXT];
+const BLAKE2B: [Size; 3] = [Size::Between(0, 64), TEXT, Size::Between(1, 64)];
+const LIONESS: [Size; 3] = [
+    Size::Exactly(128),
+    Size::Exactly(48),
+    Size::Between(33, LONGEST_BLOCK),
+];
+
+/// One of these.
+fn one_of<T: Copy>(random: &mut Random, choice: &[T]) -> T {
+    choice[up_to(random, choice.len() - 1)]
+}
+
+/// One time out of so many.
+fn once_in(random: &mut Random, times: usize) -> bool {
+    up_to(random, times - 1) == 0
+}
+
+impl Size {
+    /// A short length that is allowed. `lens` are those of the buffers before.
+    fn right(self, random: &mut Random, lens: &[usize]) -> usize {
+        match self {
+            Size::Exactly(len) => len,
+            Size::Between(least, most) => {
+                let more = if once_in(random, 16) { 200 } else { 40 };
+                most.min(least + up_to(random, more))
+            }
+            Size::Room(place) if once_in(random, 2) => lens[place],
+            Size::Room(place) => lens[place] + up_to(random, 20),
+        }
+    }
+
+    /// A length that mostly is not allowed: wrong by one, nothing, or any. Long
+    /// buffers take time, so where only they are wrong, the length often is
+    /// allowed after all.
+    fn wrong(self, random: &mut Random, lens: &[usize]) -> usize {
+        let below = |random: &mut Random, least: usize| {
+            let any = up_to(random, least);
+            one_of(random, &[least.saturating_sub(1), 0, any])
+        };
+        match self {
+            Size::Exactly(len) if once_in(random, 2) => len + 1 + below(random, len),
+            Size::Exactly(len) => below(random, len),
+            Size::Between(_, most) if once_in(random, 2 + most / 100_000) => {
+                most + 1 + below(random, 17)
+            }
+            Size::Between(0, _) => self.right(random, lens),
+            Size::Between(least, _) => below(random, least),
+            Size::Room(place) => below(random, lens[place]),
+        }
+    }
+}
+
+/// Lengths of the buffers of one call. In half of the cases all are allowed; in
+/// the others mostly one is wrong, and often more, so that several refusals
+/// apply.
+fn lengths<const N: usize>(random: &mut Random, sizes: [Size; N]) -> [usize; N] {
+    let wrong_place = once_in(random, 2).then(|| up_to(random, N - 1));
+    let mut lens = [0; N];
+    for (n, size) in sizes.into_iter().enumerate() {
+        let wrong = wrong_place.is_some_and(|place| place == n || once_in(random, 4));
+        let len = if wrong { Size::wrong } else { Size::right };
+        lens[n] = len(size, random, &lens[..n]);
+    }
+    lens
+}
+
+/// What is opened: key, nonce, associated data, ciphertext and tag.
+type Parts = [Vec<u8>; 5];
+
+/// Puts the ciphertext in the place of the text, and its tag. Not the archive
+/// seals: it must open what others sealed.
+fn sealed([key, nonce, data, text, mut tag]: Parts) -> Parts {
+    let mut ciphertext = vec![0; text.len()];
+    let number = hyena::seal(&key, &nonce, &data, &text, &mut ciphertext, &mut tag);
+    assert_eq!(number, 0, "the second implementation seals");
+    [key, nonce, data, ciphertext, tag]
+}
+
+/// Damages one bit of one part: of the tag where the part chosen is empty.
+fn damage(random: &mut Random, parts: &mut Parts) {
+    let chosen = up_to(random, 4);
+    let place = if parts[chosen].is_empty() { 4 } else { chosen };
+    let bit = up_to(random, 8 * parts[place].len() - 1);
+    parts[place] = with_flip(&parts[place], bit);
+}
+
+/// What to open where these are the lengths, room for it, and the number that
+/// must be answered. Where the lengths are allowed, half of what is opened is
+/// undamaged.
+fn opening(random: &mut Random, lens: [usize; 6]) -> ([Guarded; 5], Guarded, u32) {
+    let [key, nonce, data, text, tag, room] = lens;
+    let mut parts = [key, nonce, data, text, tag].map(|len| random.bytes(len));
+    let mut expected = judged(lens);
+    if expected == 0 {
+        parts = sealed(parts);
+        if once_in(random, 2) {
+            damage(random, &mut parts);
+            expected = 7;
+        }
+    }
+    let parts = parts.map(|part| Guarded::holding(random, &part));
+    (parts, Guarded::new(random, room), expected)
+}
+
+/// A start from which a short text ends near the counter's end, or any.
+fn chacha20_start(random: &mut Random) -> u32 {
+    let near_end = u32::MAX - up_to(random, 4) as u32;
+    let any = random.next_u64() as u32;
+    one_of(random, &[near_end, near_end, any, any >> 24])
+}
+
+/// Reader number and count, each at a border or any.
+fn drawer_numbers(random: &mut Random) -> (u32, u64) {
+    let reader = random.next_u64() as u32;
+    let (few, count) = (up_to(random, 3) as u64, random.next_u64());
+    (
+        one_of(random, &[0, u32::MAX, reader, reader]),
+        one_of(random, &[few, u64::MAX - few, count]),
+    )
+}
+
+/// Both draw, or take an iv, and answer the same number, bytes and drawer.
+fn compare_draws<const N: usize>(
+    random: &mut Random,
+    ours: unsafe extern "C" fn(archive::Drawer) -> archive::Drawn<N>,
+    seconds: fn(drawer::Drawer) -> drawer::Draw<N>,
+) -> u32 {
+    let (reader, count) = drawer_numbers(random);
+    // SAFETY: drawers and answers go by value, and every drawer is allowed.
+    let drawn = unsafe { ours(archive::Drawer { reader, count }) };
+    let expected = seconds(drawer::Drawer { reader, count });
+    let case = format!("reader {reader}, count {count}");
+    assert_eq!(drawn.number, expected.number, "{case}");
+    assert_eq!(drawn.bytes, expected.bytes, "{case}");
+    let next = (drawn.next.reader, drawn.next.count);
+    assert_eq!(next, (expected.next.reader, expected.next.count), "{case}");
+    drawn.number
+}
+
+fn compare_starts(random: &mut Random) -> u32 {
+    let (reader, count) = drawer_numbers(random);
+    // SAFETY: numbers and drawers go by value, and all of them are allowed.
+    let started = unsafe { archive::vespruldo_drawer_start(reader, count) };
+    let expected = drawer::start(reader, count);
+    let case = format!("reader {reader}, count {count}");
+    assert_eq!(started.reader, expected.reader, "{case}");
+    assert_eq!(started.count, expected.count, "{case}");
+    0
+}
+
+/// A book with a few classes from 0 to `most`, one time out of four damaged in
+/// count, order or length.
+fn random_book(random: &mut Random, most: usize) -> Vec<u8> {
+    let len = up_to(random, 5);
+    let mut classes: Vec<u16> = (0..len).map(|_| up_to(random, most) as u16).collect();
+    classes.sort_unstable();
+    classes.dedup();
+    let damage = up_to(random, 15);
+    if damage == 0 && classes.len() > 1 {
+        let n = up_to(random, classes.len() - 2);
+        classes[n + 1] = one_of(random, &classes[..=n]);
+    }
+    let mut book = book(random, &classes);
+    let count = classes.len() as u16;
+    match damage {
+        1 => {
+            let any = random.next_u64() as u16;
+            let [less, more] = [count.wrapping_sub(1), count + 1];
+            book = with_count(&book, one_of(random, &[less, more, count << 8, any]));
+        }
+        2 => book.truncate(up_to(random, book.len() - 1)),
+        3 => {
+            let more = one_of(random, &[1, 2, 18, 36]);
+            book.extend(random.bytes(more));
+        }
+        _ => {}
+    }
+    book
+}
+
+/// Both look a class up in two books, which may be one.
+fn compare_lookups(random: &mut Random) -> u32 {
+    // Of few classes each book has many, and so both have the same ones.
+    let most = one_of(random, &[3, 12, 12, 0x2ff, 0xffff]);
+    let books = [most; 2].map(|most| random_book(random, most));
+    let listed = books.each_ref().map(|book| book.get(2..4));
+    let any = (up_to(random, most) as u16).to_le_bytes();
+    let class = one_of(random, &[listed[0], listed[1], None, None, None]).unwrap_or(&any);
+    let class = u16::from_le_bytes([class[0], class[1]]);
+
+    let mut lent = books.map(|book| Guarded::holding(random, &book));
+    let before = lent.clone();
+    let [this, last] = lent.each_mut().map(|book| &*book.lent());
+    let books = if once_in(random, 8) {
+        [this, this]
+    } else {
+        [this, last]
+    };
+    let found = books::compare(books, class);
+    assert!(lent == before, "books, or their guards, class {class}");
+    found.number
+}
+
+/// The pairs that a thread compares; ChaCha20's depends on where it starts.
+struct Pairs {
+    seal: Pair<4, 2>,
+    open: Pair<5, 1>,
+    seal_short: Pair<3, 2>,
+    open_short: Pair<4, 1>,
+    gift_encipher: Pair<1, 1>,
+    gift_decipher: Pair<1, 1>,
+    blake2b: Pair<2, 1>,
+    lioness_encipher: Pair<2, 1>,
+    lioness_decipher: Pair<2, 1>,
+}
+
+impl Pairs {
+    fn new() -> Pairs {
+        Pairs {
+            seal: pairs::seal(),
+            open: pairs::open(),
+            seal_short: pairs::seal_short(),
+            open_short: pairs::open_short(),
+            gift_encipher: pairs::gift_encipher(),
+            gift_decipher: pairs::gift_decipher(),
+            blake2b: pairs::blake2b(),
+            lioness_encipher: pairs::lioness_encipher(),
+            lioness_decipher: pairs::lioness_decipher(),
+        }
+    }
+
+    /// A case of this entry point; answers the number on which both agree.
+    fn compare(&self, entry: Entry, random: &mut Random) -> u32 {
+        match entry {
+            Entry::Seal => {
+                let [key, nonce, data, text, tag, room] = lengths(random, HYENA);
+                let read_lens = [key, nonce, data, text];
+                self.seal.compare(random, read_lens, [room, tag])
+            }
+            Entry::SealShort => {
+                let [key, nonce, text, tag, room] = lengths(random, HYENA_SHORT);
+                let read_lens = [key, nonce, text];
+                self.seal_short.compare(random, read_lens, [room, tag])
+            }
+            Entry::Open | Entry::OpenShort => self.compare_openings(entry, random),
+            Entry::GiftEncipher => compare_gifts(&self.gift_encipher, random),
+            Entry::GiftDecipher => compare_gifts(&self.gift_decipher, random),
+            Entry::ChaCha20 => {
+                let start = chacha20_start(random);
+                compare_threes(&pairs::chacha20(start), random, CHACHA20)
+            }
+            Entry::Blake2b => compare_threes(&self.blake2b, random, BLAKE2B),
+            Entry::LionessEncipher => compare_threes(&self.lioness_encipher, random, LIONESS),
+            Entry::LionessDecipher => compare_threes(&self.lioness_decipher, random, LIONESS),
+            Entry::DrawerStart => compare_starts(random),
+            Entry::DrawerDraw => {
+                compare_draws(random, archive::vespruldo_drawer_draw, drawer::draw)
+            }
+            Entry::DrawerIv => compare_draws(random, archive::vespruldo_drawer_iv, drawer::iv),
+            Entry::KeyFind => compare_lookups(random),
+        }
+    }
+
+    fn compare_openings(&self, entry: Entry, random: &mut Random) -> u32 {
+        let lens = if entry == Entry::Open {
+            lengths(random, HYENA)
+        } else {
+            let [key, nonce, text, tag, room] = lengths(random, HYENA_SHORT);
+            [key, nonce, 0, text, tag, room]
+        };
+        let (parts, room, expected) = opening(random, lens);
+        let (number, _) = if entry == Entry::Open {
+            self.open.run(parts, [room])
+        } else {
+            let [key, nonce, _, text, tag] = parts;
+            self.open_short.run([key, nonce, text, tag], [room])
+        };
+        assert_eq!(number, expected, "{entry:?}, {lens:?}");
+        number
+    }
+}
+
+fn compare_gifts(pair: &Pair<1, 1>, random: &mut Random) -> u32 {
+    let [key, block] = lengths(random, GIFT);
+    pair.compare(random, [key], [block])
+}
+
+/// Two buffers are read, and one is worked in.
+fn compare_threes(pair: &Pair<2, 1>, random: &mut Random, sizes: [Size; 3]) -> u32 {
+    let [first, second, worked] = lengths(random, sizes);
+    pair.compare(random, [first, second], [worked])
+}
+
+/// How often each entry point answered each number.
+type Tally = BTreeMap<(Entry, u32), u64>;
+
+/// Where a thread is, said when a case fails, so that it can be found again.
+struct Place {
+    seed: u64,
+    case: u64,
+    entry: Entry,
+}
+
+impl Drop for Place {
+    fn drop(&mut self) {
+        if thread::panicking() {
+            let Place { seed, case, entry } = self;
+            eprintln!("seed {seed}, case {case}: {entry:?}");
+        }
+    }
+}
+
+/// A thread's part of the cases, from its own generator.
+fn compare_cases(seed: u64) -> Tally {
+    let mut random = Random::new(seed);
+    let pairs = Pairs::new();
+    let mut tally = Tally::new();
+    for case in 0..CASES / THREADS {
+        let entry = Entry::random(&mut random);
+        let _place = Place { seed, case, entry };
+        let number = pairs.compare(entry, &mut random);
+        *tally.entry((entry, number)).or_default() += 1;
+    }
+    tally
+}
+
+/// All threads begin at the same time.
+fn compare_in_threads() -> Tally {
+    let start = Barrier::new(THREADS as usize);
+    let work = |seed| {
+        start.wait();
+        compare_cases(seed)
+    };
+    let mut tally = Tally::new();
+    thread::scope(|scope| {
+        let seeds = FIRST_SEED..FIRST_SEED + THREADS;
+        let threads: Vec<_> = seeds.map(|seed| scope.spawn(move || work(seed))).collect();
+        for thread in threads {
+            let part = thread
+                .join()
+                .unwrap_or_else(|why| panic::resume_unwind(why));
+            for (answer, times) in part {
+                *tally.entry(answer).or_default() += times;
+            }
+        }
+    });
+    tally
+}
+
+#[test]
+fn a_million_cases_from_many_threads_agree() {
+    let mut tally = compare_in_threads();
+    assert_eq!(tally.values().sum::<u64>(), CASES);
+    for (entry, _, numbers) in ENTRIES {
+        for &number in numbers {
+            let times = tally.remove(&(entry, number)).unwrap_or(0);
+            println!("{entry:?} {number}: {times}");
+            // Little is shown of what hardly ever came.
+            assert!(times >= 100, "{entry:?} {number}: {times}");
+        }
+    }
+    assert!(tally.is_empty(), "not promised: {tally:?}");
+}
