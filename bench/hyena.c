@@ -3,13 +3,11 @@
 
 #include <string.h>
 
-#include "archive.h"
 #include "plain_hyena.h"
 #include "timing.h"
+#include "vespruldo.h"
 
 #define TAG 16
-#define LARGEST 1048576
-#define SIZES .sizes = {16, 4096, LARGEST}, .size_count = 3
 
 static uint8_t key[16];
 static uint8_t nonce[12];
@@ -18,7 +16,7 @@ static uint8_t data[16];
 /* Where sealing writes to. Ciphertext and tag are then laid over the text, so
    that each call waits for the last and the text shows what both were. Text and
    room may not overlap; the copy costs all versions the same. */
-static uint8_t room[LARGEST];
+static uint8_t room[LONGEST];
 
 static void keep(uint8_t *text, size_t len, const uint8_t tag[TAG])
 {
@@ -31,9 +29,9 @@ static void keep(uint8_t *text, size_t len, const uint8_t tag[TAG])
 static void archive_seal(uint8_t *text, size_t len)
 {
     uint8_t tag[TAG];
-    expect_archive(vespruldo_seal(key, sizeof key, nonce, sizeof nonce, data,
-                                  sizeof data, text, len, room, len, tag,
-                                  sizeof tag));
+    expect(ARCHIVE, VESPRULDO_DONE,
+           vespruldo_seal(key, sizeof key, nonce, sizeof nonce, data,
+                          sizeof data, text, len, room, len, tag, sizeof tag));
     keep(text, len, tag);
 }
 
@@ -45,26 +43,25 @@ static void plain_seal(uint8_t *text, size_t len)
 }
 
 static const struct subject sealing = {
-    .title = "HyENA, sealing, data of 16 bytes",
-    .versions = {{"vespruldo", archive_seal}, {"plain C", plain_seal}},
-    .version_count = 2,
-    SIZES,
+    .title = "HyENA, sealing",
+    .versions = {[ARCHIVE] = archive_seal, [PLAIN] = plain_seal},
+    .lengths = TEXT_LENGTHS,
 };
 
-/* What is opened: for each size one card, sealed beforehand. The same card is
+/* What is opened: for each length one card, sealed beforehand. The same card is
    opened in every call, since what comes out of one can't be opened again. */
 static struct card {
     size_t len;
-    uint8_t ciphertext[LARGEST];
+    uint8_t ciphertext[LONGEST];
     uint8_t tag[TAG];
-} cards[MOST_SIZES];
+} cards[MOST_LENGTHS];
 
 static void seal_cards(void)
 {
-    for (size_t s = 0; s < sealing.size_count; s++) {
-        struct card *card = &cards[s];
-        card->len = sealing.sizes[s];
-        fill(room, card->len, s);
+    for (size_t c = 0; c < MOST_LENGTHS; c++) {
+        struct card *card = &cards[c];
+        card->len = sealing.lengths[c];
+        fill(room, card->len, c);
         plain_hyena_seal(key, nonce, data, sizeof data, room, card->len,
                          card->ciphertext, card->tag);
     }
@@ -82,24 +79,24 @@ static const struct card *card_of(size_t len)
 static void archive_open(uint8_t *text, size_t len)
 {
     const struct card *card = card_of(len);
-    expect_archive(vespruldo_open(key, sizeof key, nonce, sizeof nonce, data,
-                                  sizeof data, card->ciphertext, len,
-                                  card->tag, TAG, text, len));
+    expect(ARCHIVE, VESPRULDO_DONE,
+           vespruldo_open(key, sizeof key, nonce, sizeof nonce, data,
+                          sizeof data, card->ciphertext, len, card->tag, TAG,
+                          text, len));
 }
 
 static void plain_open(uint8_t *text, size_t len)
 {
     const struct card *card = card_of(len);
-    expect("plain C", true,
+    expect(PLAIN, true,
            plain_hyena_open(key, nonce, data, sizeof data, card->ciphertext,
                             len, card->tag, text));
 }
 
 static const struct subject opening = {
-    .title = "HyENA, opening, data of 16 bytes",
-    .versions = {{"vespruldo", archive_open}, {"plain C", plain_open}},
-    .version_count = 2,
-    SIZES,
+    .title = "HyENA, opening",
+    .versions = {[ARCHIVE] = archive_open, [PLAIN] = plain_open},
+    .lengths = TEXT_LENGTHS,
 };
 
 int main(void)

@@ -1,13 +1,15 @@
-/* Times LIONESS of the archive, both ways, beside LIONESS in C over two pairs
-   of ChaCha20 and BLAKE2b, the plain one and libsodium's, in one run. */
+/* Times LIONESS of the archive, both ways, beside LIONESS in C over three pairs
+   of ChaCha20 and BLAKE2b, the plain one, libsodium's and OpenSSL's, in one
+   run. */
 
-#include <sodium.h>
 #include <string.h>
 
-#include "archive.h"
+#include "libsodium.h"
+#include "openssl.h"
 #include "plain_blake.h"
 #include "plain_chacha.h"
 #include "timing.h"
+#include "vespruldo.h"
 
 #define LEFT 32
 #define NONCE 12
@@ -18,45 +20,16 @@ static uint8_t iv[4 * NONCE];
 
 /* What LIONESS is made from. */
 struct pair {
-    /* Adds the key stream, counter from 0. */
     void (*stream)(const uint8_t stream_key[LEFT], const uint8_t nonce[NONCE],
-                   uint8_t *text, size_t len);
-    void (*digest)(const uint8_t digest_key[LEFT + NONCE], const uint8_t *text,
-                   size_t len, uint8_t digest[DIGEST]);
+                   uint32_t start, uint8_t *text, size_t len);
+    void (*digest)(const uint8_t *digest_key, size_t key_len,
+                   const uint8_t *text, size_t len, uint8_t *digest,
+                   size_t digest_len);
 };
 
-static void plain_stream(const uint8_t stream_key[LEFT],
-                         const uint8_t nonce[NONCE], uint8_t *text, size_t len)
-{
-    plain_chacha20(stream_key, nonce, 0, text, len);
-}
-
-static void plain_digest(const uint8_t digest_key[LEFT + NONCE],
-                         const uint8_t *text, size_t len,
-                         uint8_t digest[DIGEST])
-{
-    plain_blake2b(digest_key, LEFT + NONCE, text, len, digest, DIGEST);
-}
-
-static void sodium_stream(const uint8_t stream_key[LEFT],
-                          const uint8_t nonce[NONCE], uint8_t *text, size_t len)
-{
-    expect("libsodium", 0,
-           crypto_stream_chacha20_ietf_xor_ic(text, text, len, nonce, 0,
-                                              stream_key));
-}
-
-static void sodium_digest(const uint8_t digest_key[LEFT + NONCE],
-                          const uint8_t *text, size_t len,
-                          uint8_t digest[DIGEST])
-{
-    expect("libsodium", 0,
-           crypto_generichash_blake2b(digest, DIGEST, text, len, digest_key,
-                                      LEFT + NONCE));
-}
-
-static const struct pair plain_pair = {plain_stream, plain_digest};
-static const struct pair sodium_pair = {sodium_stream, sodium_digest};
+static const struct pair plain_pair = {plain_chacha20, plain_blake2b};
+static const struct pair sodium_pair = {libsodium_chacha20, libsodium_blake2b};
+static const struct pair openssl_pair = {openssl_chacha20, openssl_blake2b};
 
 /* Steps 1 and 3 of document 01, LIONESS; part counts keys and ivs from 0. */
 static void stream_step(const struct pair *pair, int part, uint8_t *block,
@@ -66,7 +39,7 @@ static void stream_step(const struct pair *pair, int part, uint8_t *block,
     for (int j = 0; j < LEFT; j++) {
         stream_key[j] = block[j] ^ key[LEFT * part + j];
     }
-    pair->stream(stream_key, iv + NONCE * part, block + LEFT, len - LEFT);
+    pair->stream(stream_key, iv + NONCE * part, 0, block + LEFT, len - LEFT);
 }
 
 /* Steps 2 and 4. */
@@ -77,7 +50,8 @@ static void digest_step(const struct pair *pair, int part, uint8_t *block,
     uint8_t digest[DIGEST];
     memcpy(digest_key, key + LEFT * part, LEFT);
     memcpy(digest_key + LEFT, iv + NONCE * part, NONCE);
-    pair->digest(digest_key, block + LEFT, len - LEFT, digest);
+    pair->digest(digest_key, sizeof digest_key, block + LEFT, len - LEFT,
+                 digest, sizeof digest);
     for (int j = 0; j < LEFT; j++) {
         block[j] ^= digest[j];
     }
@@ -101,14 +75,16 @@ static void decipher(const struct pair *pair, uint8_t *block, size_t len)
 
 static void archive_encipher(uint8_t *block, size_t len)
 {
-    expect_archive(vespruldo_lioness_encipher(key, sizeof key, iv, sizeof iv,
-                                              block, len));
+    expect(ARCHIVE, VESPRULDO_DONE,
+           vespruldo_lioness_encipher(key, sizeof key, iv, sizeof iv, block,
+                                      len));
 }
 
 static void archive_decipher(uint8_t *block, size_t len)
 {
-    expect_archive(vespruldo_lioness_decipher(key, sizeof key, iv, sizeof iv,
-                                              block, len));
+    expect(ARCHIVE, VESPRULDO_DONE,
+           vespruldo_lioness_decipher(key, sizeof key, iv, sizeof iv, block,
+                                      len));
 }
 
 static void plain_encipher(uint8_t *block, size_t len)
@@ -131,34 +107,46 @@ static void sodium_decipher(uint8_t *block, size_t len)
     decipher(&sodium_pair, block, len);
 }
 
-#define SIZES .sizes = {64, 1056, 65568, 1048608}, .size_count = 4
+static void openssl_encipher(uint8_t *block, size_t len)
+{
+    encipher(&openssl_pair, block, len);
+}
+
+static void openssl_decipher(uint8_t *block, size_t len)
+{
+    decipher(&openssl_pair, block, len);
+}
 
 static const struct subject enciphering = {
     .title = "LIONESS, enciphering",
-    .versions = {{"vespruldo", archive_encipher},
-                 {"plain C", plain_encipher},
-                 {"libsodium", sodium_encipher}},
-    .version_count = 3,
-    SIZES,
+    .versions = {[ARCHIVE] = archive_encipher,
+                 [PLAIN] = plain_encipher,
+                 [SODIUM] = sodium_encipher,
+                 [OPENSSL] = openssl_encipher},
+    .lengths = TEXT_LENGTHS,
+    .more = LEFT,
 };
 
 static const struct subject deciphering = {
     .title = "LIONESS, deciphering",
-    .versions = {{"vespruldo", archive_decipher},
-                 {"plain C", plain_decipher},
-                 {"libsodium", sodium_decipher}},
-    .version_count = 3,
-    SIZES,
+    .versions = {[ARCHIVE] = archive_decipher,
+                 [PLAIN] = plain_decipher,
+                 [SODIUM] = sodium_decipher,
+                 [OPENSSL] = openssl_decipher},
+    .lengths = TEXT_LENGTHS,
+    .more = LEFT,
 };
 
 int main(void)
 {
     fill(key, sizeof key, 1);
     fill(iv, sizeof iv, 2);
-    expect("libsodium", 0, sodium_init());
+    libsodium_start();
+    openssl_start();
     compare_versions(&enciphering);
     compare_versions(&deciphering);
     time_versions(&enciphering);
     time_versions(&deciphering);
+    openssl_end();
     return 0;
 }

@@ -10,6 +10,12 @@ static const uint8_t sbox[16] = {
     0x2, 0xd, 0xb, 0x7, 0x5, 0x0, 0x8, 0xe,
 };
 
+/* What the S-box turns into each of the sixteen. */
+static const uint8_t sbox_back[16] = {
+    0xd, 0x0, 0x8, 0x6, 0x2, 0xc, 0x4, 0xb,
+    0xe, 0x7, 0x1, 0xa, 0x3, 0x9, 0xf, 0x5,
+};
+
 /* Step 2: the place to which bit i moves. */
 #define PLACE(i) \
     (4 * ((i) / 16) + 32 * ((3 * (((i) % 16) / 4) + (i) % 4) % 4) + (i) % 4)
@@ -38,11 +44,11 @@ static void store(uint8_t bytes[8], uint64_t number)
     }
 }
 
-static uint64_t substitute(uint64_t half)
+static uint64_t substitute(const uint8_t box[16], uint64_t half)
 {
     uint64_t result = 0;
     for (int n = 0; n < 16; n++) {
-        result |= (uint64_t)sbox[(half >> (4 * n)) & 15] << (4 * n);
+        result |= (uint64_t)box[(half >> (4 * n)) & 15] << (4 * n);
     }
     return result;
 }
@@ -64,6 +70,21 @@ static struct halves move_bits(struct halves state)
         set_bit(&moved, places[64 + i], (state.high >> i) & 1);
     }
     return moved;
+}
+
+static uint64_t get_bit(struct halves state, unsigned place)
+{
+    return (place < 64 ? state.low >> place : state.high >> (place - 64)) & 1;
+}
+
+static struct halves move_bits_back(struct halves moved)
+{
+    struct halves state = {0, 0};
+    for (int i = 0; i < 64; i++) {
+        state.low |= get_bit(moved, places[i]) << i;
+        state.high |= get_bit(moved, places[64 + i]) << i;
+    }
+    return state;
 }
 
 /* Step 3 for one half: sixteen bits of U go to bits 4i+2, sixteen bits of V
@@ -127,8 +148,8 @@ void plain_gift_encipher_under(const struct plain_gift_key *prepared,
 {
     struct halves state = {load(block), load(block + 8)};
     for (int round = 0; round < PLAIN_GIFT_ROUNDS; round++) {
-        state.low = substitute(state.low);
-        state.high = substitute(state.high);
+        state.low = substitute(sbox, state.low);
+        state.high = substitute(sbox, state.high);
         state = move_bits(state);
         state.low ^= prepared->added[round].low;
         state.high ^= prepared->added[round].high;
@@ -142,4 +163,20 @@ void plain_gift_encipher(const uint8_t key[16], uint8_t block[16])
     struct plain_gift_key prepared;
     plain_gift_prepare(key, &prepared);
     plain_gift_encipher_under(&prepared, block);
+}
+
+void plain_gift_decipher(const uint8_t key[16], uint8_t block[16])
+{
+    struct plain_gift_key prepared;
+    plain_gift_prepare(key, &prepared);
+    struct halves state = {load(block), load(block + 8)};
+    for (int round = PLAIN_GIFT_ROUNDS - 1; round >= 0; round--) {
+        state.low ^= prepared.added[round].low;
+        state.high ^= prepared.added[round].high;
+        state = move_bits_back(state);
+        state.low = substitute(sbox_back, state.low);
+        state.high = substitute(sbox_back, state.high);
+    }
+    store(block, state.low);
+    store(block + 8, state.high);
 }

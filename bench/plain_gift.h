@@ -29,4 +29,7 @@ void plain_gift_encipher_under(const struct plain_gift_key *prepared,
    each call. */
 void plain_gift_encipher(const uint8_t key[16], uint8_t block[16]);
 
+/* Undoes plain_gift_encipher. */
+void plain_gift_decipher(const uint8_t key[16], uint8_t block[16]);
+
 #endif

@@ -7,37 +7,37 @@
 #include <stddef.h>
 #include <stdint.h>
 
-#define MOST_VERSIONS 4
-#define MOST_SIZES 4
+/* The archive's version and those of its peers, in the table's order. */
+enum version { ARCHIVE, PLAIN, SODIUM, OPENSSL, B2, VERSIONS };
+
+#define MOST_LENGTHS 4
+#define LONGEST 1048576
+#define TEXT_LENGTHS {16, 1024, 65536, LONGEST}
 
 /* Does the work once on so many bytes and leaves the result in them. Done over
    and over, each call so waits for the last. */
 typedef void work(uint8_t *bytes, size_t len);
 
-struct version {
-    const char *name;
-    work *run;
-};
-
 struct subject {
     const char *title;
-    /* The first is the archive's, the others are its peers. */
-    struct version versions[MOST_VERSIONS];
-    size_t version_count;
-    size_t sizes[MOST_SIZES];
-    size_t size_count;
+    /* NULL where a peer has no such work. */
+    work *versions[VERSIONS];
+    /* Of the text, rising; a 0 is behind the last. Each is a row. */
+    size_t lengths[MOST_LENGTHS + 1];
+    /* Bytes that the work is done on besides the text. */
+    size_t more;
 };
 
 /* Fills the bytes with a pattern of the seed's own, the same in every run. */
 void fill(uint8_t *bytes, size_t len, uint64_t seed);
 
 /* Ends the program unless the answer is the one that means done. */
-void expect(const char *who, long done, long answer);
+void expect(enum version who, long done, long answer);
 
-/* Ends the program unless all versions give the same result at all sizes. */
+/* Ends the program unless all versions give the same result at all lengths. */
 void compare_versions(const struct subject *subject);
 
-/* Times all versions at all sizes and prints the table. */
+/* Times all versions at all lengths and prints the table's rows. */
 void time_versions(const struct subject *subject);
 
 #endif

@@ -2,9 +2,9 @@
 
    Link with libvespruldo.a, which needs nothing but memcpy and memset.
 
-   Buffers. A buffer is a pointer and its length in bytes. Lengths of every kind
-   are allowed: a wrong one is refused, never run into. Where the length is 0 the
-   pointer is not followed and may be NULL. Two buffers of one call must not
+   Buffers. A buffer is a pointer and its length in bytes, as many as there are at
+   that place. A length that a function does not allow is refused, whatever it
+   is. Where the length is 0 the pointer is not followed and may be NULL. Two buffers of one call must not
    overlap where one of them is written (the pointers without `const`). No
    function keeps a pointer, uses memory of its own between calls or takes any
    from a heap, so calls on different buffers may run at the same time.

@@ -1,0 +1,379 @@
+/* See calls.h. Lengths and numbers stand here as document 01 has them
+   and not by the header's names: the header is on trial too. */
+
+#define _POSIX_C_SOURCE 200112L
+
+#include "calls.h"
+
+#include <inttypes.h>
+#include <pthread.h>
+#include <stdarg.h>
+#include <stdio.h>
+#include <stdlib.h>
+#include <string.h>
+
+#define LENT(role) call->loans[role].bytes, call->loans[role].len
+
+static uint32_t run_seal(struct call *call)
+{
+    return vespruldo_seal(LENT(KEY), LENT(NONCE), LENT(DATA), LENT(TEXT),
+                          LENT(ROOM), LENT(TAG));
+}
+
+static uint32_t run_open(struct call *call)
+{
+    return vespruldo_open(LENT(KEY), LENT(NONCE), LENT(DATA), LENT(TEXT),
+                          LENT(TAG), LENT(ROOM));
+}
+
+static uint32_t run_seal_short(struct call *call)
+{
+    return vespruldo_seal_short(LENT(KEY), LENT(NONCE), LENT(TEXT), LENT(ROOM),
+                                LENT(TAG));
+}
+
+static uint32_t run_open_short(struct call *call)
+{
+    return vespruldo_open_short(LENT(KEY), LENT(NONCE), LENT(TEXT), LENT(TAG),
+                                LENT(ROOM));
+}
+
+static uint32_t run_key_find(struct call *call)
+{
+    call->found = vespruldo_key_find(LENT(THIS_TERM), LENT(LAST_TERM),
+                                     call->class_number);
+    return call->found.number;
+}
+
+static uint32_t run_lioness_encipher(struct call *call)
+{
+    return vespruldo_lioness_encipher(LENT(KEY), LENT(NONCE), LENT(TEXT));
+}
+
+static uint32_t run_lioness_decipher(struct call *call)
+{
+    return vespruldo_lioness_decipher(LENT(KEY), LENT(NONCE), LENT(TEXT));
+}
+
+static uint32_t run_gift_encipher(struct call *call)
+{
+    return vespruldo_gift_encipher(LENT(KEY), LENT(TEXT));
+}
+
+static uint32_t run_gift_decipher(struct call *call)
+{
+    return vespruldo_gift_decipher(LENT(KEY), LENT(TEXT));
+}
+
+static uint32_t run_chacha20(struct call *call)
+{
+    return vespruldo_chacha20(LENT(KEY), LENT(NONCE), call->start, LENT(TEXT));
+}
+
+static uint32_t run_blake2b(struct call *call)
+{
+    return vespruldo_blake2b(LENT(KEY), LENT(TEXT), LENT(ROOM));
+}
+
+static uint32_t opening_number(const struct call *call)
+{
+    return call->opens ? 0 : 7;
+}
+
+static uint32_t stream_number(const struct call *call)
+{
+    uint64_t blocks = (call->loans[TEXT].len + 63) / 64;
+    return call->start + blocks > (uint64_t)1 << 32 ? 8 : 0;
+}
+
+static uint32_t find_number(const struct call *call)
+{
+    return plain_find(call).number;
+}
+
+/* Rows that several functions share. */
+#define CARD_KEY {KEY, READ, 16, 16, 1, false}
+#define CARD_NONCE {NONCE, READ, 12, 12, 2, false}
+#define CARD_DATA {DATA, READ, 0, 65536, 3, false}
+#define CARD_TEXT {TEXT, READ, 0, 1048576, 4, false}
+#define CARD_TAG(use) {TAG, use, 16, 16, 5, false}
+#define CARD_ROOM {ROOM, WRITTEN, 0, SIZE_MAX, 6, true}
+#define LIONESS_PARTS \
+    {{KEY, READ, 128, 128, 1, false}, \
+     {NONCE, READ, 48, 48, 2, false}, \
+     {TEXT, CHANGED, 33, 1048608, 4, false}}
+#define GIFT_PARTS {CARD_KEY, {TEXT, CHANGED, 16, 16, 4, false}}
+
+const struct function functions[FUNCTIONS] = {
+    [SEAL] = {.name = "vespruldo_seal", .run = run_seal,
+              .part_count = 6,
+              .parts = {CARD_KEY, CARD_NONCE, CARD_DATA, CARD_TEXT,
+                        CARD_TAG(WRITTEN), CARD_ROOM},
+              .opened_by = &functions[OPEN],
+              .other_form = &functions[SEAL_SHORT]},
+    [OPEN] = {.name = "vespruldo_open", .run = run_open,
+              .number = opening_number, .refusal = 7,
+              .part_count = 6,
+              .parts = {CARD_KEY, CARD_NONCE, CARD_DATA, CARD_TEXT,
+                        CARD_TAG(READ), CARD_ROOM}},
+    [SEAL_SHORT] = {.name = "vespruldo_seal_short", .run = run_seal_short,
+                    .part_count = 5,
+                    .parts = {CARD_KEY, CARD_NONCE, CARD_TEXT,
+                              CARD_TAG(WRITTEN), CARD_ROOM},
+                    .opened_by = &functions[OPEN_SHORT],
+                    .other_form = &functions[SEAL]},
+    [OPEN_SHORT] = {.name = "vespruldo_open_short", .run = run_open_short,
+                    .number = opening_number, .refusal = 7,
+                    .part_count = 5,
+                    .parts = {CARD_KEY, CARD_NONCE, CARD_TEXT, CARD_TAG(READ),
+                              CARD_ROOM}},
+    [DRAWER_START] = {.name = "vespruldo_drawer_start"},
+    [DRAWER_DRAW] = {.name = "vespruldo_drawer_draw", .refusal = 9},
+    [DRAWER_IV] = {.name = "vespruldo_drawer_iv", .refusal = 9},
+    [KEY_FIND] = {.name = "vespruldo_key_find", .run = run_key_find,
+                  .number = find_number, .refusal = 10, .other_refusal = 11,
+                  .part_count = 2,
+                  .parts = {{THIS_TERM, READ, 0, SIZE_MAX, 10, false},
+                            {LAST_TERM, READ, 0, SIZE_MAX, 10, false}}},
+    [LIONESS_ENCIPHER] = {.name = "vespruldo_lioness_encipher",
+                          .run = run_lioness_encipher,
+                          .part_count = 3, .parts = LIONESS_PARTS,
+                          .undone_by = &functions[LIONESS_DECIPHER]},
+    [LIONESS_DECIPHER] = {.name = "vespruldo_lioness_decipher",
+                          .run = run_lioness_decipher,
+                          .part_count = 3, .parts = LIONESS_PARTS,
+                          .undone_by = &functions[LIONESS_ENCIPHER]},
+    [GIFT_ENCIPHER] = {.name = "vespruldo_gift_encipher",
+                       .run = run_gift_encipher,
+                       .part_count = 2, .parts = GIFT_PARTS,
+                       .undone_by = &functions[GIFT_DECIPHER]},
+    [GIFT_DECIPHER] = {.name = "vespruldo_gift_decipher",
+                       .run = run_gift_decipher,
+                       .part_count = 2, .parts = GIFT_PARTS,
+                       .undone_by = &functions[GIFT_ENCIPHER]},
+    [CHACHA20] = {.name = "vespruldo_chacha20", .run = run_chacha20,
+                  .number = stream_number, .refusal = 8,
+                  .part_count = 3,
+                  .parts = {{KEY, READ, 32, 32, 1, false}, CARD_NONCE,
+                            {TEXT, CHANGED, 0, 1048576, 4, false}},
+                  .undone_by = &functions[CHACHA20]},
+    [BLAKE2B] = {.name = "vespruldo_blake2b", .run = run_blake2b,
+                 .part_count = 3,
+                 .parts = {{KEY, READ, 0, 64, 1, false}, CARD_TEXT,
+                           {ROOM, WRITTEN, 1, 64, 6, false}}},
+};
+
+static const char *const role_names[ROLES] = {
+    [KEY] = "key",
+    [NONCE] = "nonce or iv",
+    [DATA] = "data",
+    [TEXT] = "text, block or this term's book",
+    [TAG] = "tag",
+    [ROOM] = "room or last term's book",
+};
+
+/* The longest lengths that cases have, with some to spare; text and room hold
+   the longest book, of 65,535 entries. */
+static const size_t role_bytes[ROLES] = {
+    [KEY] = 8192, [NONCE] = 8192,   [DATA] = 66000,
+    [TAG] = 8192, [TEXT] = 1180000, [ROOM] = 1180000,
+};
+
+void make_arenas(struct thread *thread)
+{
+    for (int set = 0; set < SETS; set++) {
+        for (int role = 0; role < ROLES; role++) {
+            make_arena(&thread->arenas[set][role], role_bytes[role]);
+        }
+    }
+}
+
+void free_arenas(struct thread *thread)
+{
+    for (int set = 0; set < SETS; set++) {
+        for (int role = 0; role < ROLES; role++) {
+            free_arena(&thread->arenas[set][role]);
+        }
+    }
+}
+
+void fail(const struct thread *thread, const char *format, ...)
+{
+    /* Not given back: only the first failure is reported. */
+    static pthread_mutex_t first = PTHREAD_MUTEX_INITIALIZER;
+    pthread_mutex_lock(&first);
+    const struct call *call = thread->running;
+    va_list rest;
+    va_start(rest, format);
+    fprintf(stderr, "%s: ", call == NULL ? "-" : call->function->name);
+    vfprintf(stderr, format, rest);
+    va_end(rest);
+    fprintf(stderr, "\nseed %" PRIu64 ", thread %u, case %" PRIu64 "\n",
+            thread->seed, thread->number, thread->case_number);
+    for (size_t p = 0; call != NULL && p < call->function->part_count; p++) {
+        enum role role = call->function->parts[p].role;
+        const struct loan *loan = &call->loans[role];
+        fprintf(stderr, "%s: %zu bytes at %p\n", role_names[role], loan->len,
+                (void *)loan->bytes);
+    }
+    _Exit(1);
+}
+
+void fail_at(const struct thread *thread, int signal_number,
+             const void *address)
+{
+    const struct call *call = thread->running;
+    for (size_t p = 0; call != NULL && p < call->function->part_count; p++) {
+        enum role role = call->function->parts[p].role;
+        ptrdiff_t place;
+        if (is_near(&call->loans[role], address, &place)) {
+            fail(thread, "%s: signal %d at byte %td", role_names[role],
+                 signal_number, place);
+        }
+    }
+    fail(thread, "signal %d at %p", signal_number, address);
+}
+
+void require(const struct thread *thread, bool holds, const char *otherwise)
+{
+    if (!holds) {
+        fail(thread, "%s", otherwise);
+    }
+}
+
+bool promised(const struct function *function, uint32_t number)
+{
+    bool found = number == 0 || number == function->refusal ||
+                 number == function->other_refusal;
+    for (size_t p = 0; p < function->part_count; p++) {
+        found = found || number == function->parts[p].refusal;
+    }
+    return found;
+}
+
+static struct loan *lend_part(struct thread *thread, struct call *call,
+                              enum set set, enum role role, size_t len)
+{
+    struct random *random = &thread->random;
+    struct loan *loan = &call->loans[role];
+    *loan = lend(&thread->arenas[set][role], len, one_in(random, 2));
+    if (len == 0 && one_in(random, 2)) {
+        loan->bytes = NULL;
+    }
+    return loan;
+}
+
+void lend_random(struct thread *thread, struct call *call, enum set set,
+                 enum role role, size_t len)
+{
+    struct loan *loan = lend_part(thread, call, set, role, len);
+    random_fill(&thread->random, loan->place, len);
+}
+
+void lend_copy(struct thread *thread, struct call *call, enum set set,
+               enum role role, const uint8_t *bytes, size_t len)
+{
+    struct loan *loan = lend_part(thread, call, set, role, len);
+    if (len != 0) {
+        memcpy(loan->place, bytes, len);
+    }
+}
+
+/* "Where several apply, the smallest number is given." */
+static uint32_t number_asked_for(const struct call *call)
+{
+    const struct function *function = call->function;
+    for (size_t p = 0; p < function->part_count; p++) {
+        const struct part *part = &function->parts[p];
+        size_t len = call->loans[part->role].len;
+        size_t least = part->as_text ? call->loans[TEXT].len : part->least;
+        if (len < least || len > part->most) {
+            return part->refusal;
+        }
+    }
+    return function->number == NULL ? 0 : function->number(call);
+}
+
+/* From which byte on the buffer must be as it was. */
+static size_t first_kept(const struct call *call, const struct part *part,
+                         uint32_t number)
+{
+    bool touched = number == 0 || number == 7;
+    if (part->use == READ || !touched) {
+        return 0;
+    }
+    return call->loans[part->as_text ? TEXT : part->role].len;
+}
+
+static bool all_zero(const uint8_t *bytes, size_t len)
+{
+    uint8_t sum = 0;
+    for (size_t j = 0; j < len; j++) {
+        sum |= bytes[j];
+    }
+    return sum == 0;
+}
+
+static void check_part(const struct thread *thread, const struct call *call,
+                       const struct part *part, uint32_t number)
+{
+    const struct loan *loan = &call->loans[part->role];
+    const char *name = role_names[part->role];
+    size_t kept = first_kept(call, part, number);
+    if (!guard_whole(loan)) {
+        fail(thread, "%s: written outside", name);
+    }
+    if (!kept_from(loan, kept)) {
+        fail(thread, "%s: changed from byte %zu on, answer %" PRIu32, name,
+             kept, number);
+    }
+    if (number == 7 && !all_zero(loan->place, kept)) {
+        fail(thread, "%s: not zero after a wrong tag", name);
+    }
+}
+
+/* Does something to all buffers that this call must not write to at all. */
+static void each_unwritten(const struct call *call, uint32_t number,
+                           void (*act)(const struct loan *loan))
+{
+    for (size_t p = 0; p < call->function->part_count; p++) {
+        const struct part *part = &call->function->parts[p];
+        if (first_kept(call, part, number) == 0) {
+            act(&call->loans[part->role]);
+        }
+    }
+}
+
+static uint32_t run_locked(struct call *call, uint32_t asked_for)
+{
+    each_unwritten(call, asked_for, lock);
+    uint32_t number = call->function->run(call);
+    each_unwritten(call, asked_for, unlock);
+    return number;
+}
+
+uint32_t make_call(struct thread *thread, struct call *call)
+{
+    const struct function *function = call->function;
+    uint32_t asked_for = number_asked_for(call);
+    for (size_t p = 0; p < function->part_count; p++) {
+        remember(&call->loans[function->parts[p].role]);
+    }
+    thread->running = call;
+    /* Locking costs more than most calls do. */
+    uint32_t number = one_in(&thread->random, 64) ? run_locked(call, asked_for)
+                                                  : function->run(call);
+    if (number != asked_for) {
+        fail(thread, "answered %" PRIu32 ", not %" PRIu32, number, asked_for);
+    }
+    for (size_t p = 0; p < function->part_count; p++) {
+        check_part(thread, call, &function->parts[p], number);
+    }
+    count(thread, (enum function_name)(function - functions), number);
+    return number;
+}
+
+void count(struct thread *thread, enum function_name name, uint32_t number)
+{
+    thread->tally[name][number]++;
+}
