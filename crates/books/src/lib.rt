@@ -3,6 +3,7 @@ ghost use mathlib.Core.Path.{_≡_};
 ghost use mathlib.Core.Bool.{cond};
 ghost use Prim.Native.Nat.{_≤_};
 ghost use lib.Dec.{eqb};
+ghost use lib.ListN.{getD};
 ghost use Rattle.words.specs.Block.{part};
 ghost use Rattle.words.specs.Bytes.{number};
 ghost use Rattle.words.specs.Refuse.{answered};
@@ -132,7 +133,19 @@ fn class_at(book: &[u8], i: usize) -> usize
 
 // The number of two bytes.
 fn number_at(book: &[u8], at: usize) -> usize
+    requires { ⌜ at ≤ 1179632 ⌝ }
     ensures { λ r. ⌜ (r ≡ number (part (now (book .entry)) at 2)) × (r ≤ 65535) ⌝ }
 {
-    words::load(book, at, 2).lo as usize
+    byte_at(book, at + 1) * 256 + byte_at(book, at)
+}
+
+// A byte; past the end 0.
+fn byte_at(book: &[u8], at: usize) -> usize
+    ensures { λ r. ⌜ (r ≡ getD (now (book .entry)) at 0) × (r ≤ 255) ⌝ }
+{
+    if at < book.len() {
+        book[at] as usize
+    } else {
+        0
+    }
 }

@@ -3,7 +3,7 @@
 use mathlib.Core.Path.{_≡_, refl, sym, ap, _∙_}
 use mathlib.Core.List.{List, [], _∷_}
 use Prim.Native.Nat.{ℕ, zero, suc, _+_, _-_, _*_, _%_, _^_, _≤_, _<_, min}
-use native.Mathlib.Nat.{lt-of-lt-of-le, pow-le-pow-right, mod-eq-of-lt, mul-zero, mul-suc}
+use native.Mathlib.Nat.{lt-of-lt-of-le, pow-le-pow-right, mod-eq-of-lt, zero-add, mul-zero, mul-suc}
 use native.Mathlib.Numerals.{add-one}
 use native.Mathlib.Omega.{arith}
 use lib.ListN.{length, getD, take, drop, length-take, length-append, drop-of-length-le}
@@ -35,6 +35,18 @@ number-filled (suc k) w (suc n) [] h =
     none : 0 ≡ number (take w [])
     none = sym (ap number (take-nil w) ∙ number-zeros 0)
 number-filled (suc k) w (suc n) (b ∷ s) h = number-filled k w n s (omega arith)
+
+-- the number of two bytes
+pub number-two : (s : List ℕ) (at : ℕ) → number (part s at 2) ≡ getD s (at + 1) 0 * 256 + getD s at 0
+unfolding number
+number-two s at = rw add-one (two s at)
+  where
+    two : (s : List ℕ) (at : ℕ) → number (part s at 2) ≡ getD s (suc at) 0 * 256 + getD s at 0
+    two [] zero = refl
+    two (a ∷ []) zero = refl
+    two (a ∷ b ∷ s) zero = ap (λ (x : ℕ). x * 256 + a) (zero-add b)
+    two [] (suc at) = refl
+    two (a ∷ s) (suc at) = two s at
 
 module _ (s : List ℕ) (h : Bytes s) (at n : ℕ) where
   pub word-lt : number (part s at n) < 256 ^ n
