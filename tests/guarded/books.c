@@ -7,61 +7,44 @@
 
 #define ENTRY 18
 
-/* What a draw or an iv answered. */
-struct answer {
-    uint32_t number;
-    const uint8_t *bytes;
-    size_t len;
-    vespruldo_drawer next;
-};
-
-static void check_answer(const struct thread *thread, vespruldo_drawer drawer,
-                         const struct answer *answer)
+/* A draw writes its 12 bytes once, an iv four times. */
+static vespruldo_drawn_iv draw(enum function_name name, vespruldo_drawer drawer)
 {
-    bool spent = drawer.count == UINT64_MAX;
-    uint8_t draw[12] = {0};
-    for (int j = 0; j < 12 && !spent; j++) {
-        draw[j] = (uint8_t)(j < 4 ? drawer.reader >> (8 * j)
-                                  : drawer.count >> (8 * (j - 4)));
+    if (name == DRAWER_IV) {
+        return vespruldo_drawer_iv(drawer);
     }
-    bool right = answer->number == (spent ? 9 : 0) &&
-                 answer->next.reader == drawer.reader &&
-                 answer->next.count == drawer.count + (spent ? 0 : 1);
-    for (size_t i = 0; i < answer->len; i += sizeof draw) {
-        right = right && memcmp(answer->bytes + i, draw, sizeof draw) == 0;
+    vespruldo_drawn drawn = vespruldo_drawer_draw(drawer);
+    vespruldo_drawn_iv answer = {.number = drawn.number, .next = drawn.next};
+    memcpy(answer.bytes, drawn.bytes, sizeof drawn.bytes);
+    return answer;
+}
+
+static vespruldo_drawer check_draw(struct thread *thread,
+                                   enum function_name name,
+                                   vespruldo_drawer drawer)
+{
+    const struct call running = {.function = &functions[name]};
+    thread->running = &running;
+    vespruldo_drawn_iv drawn = draw(name, drawer);
+    bool spent = drawer.count == UINT64_MAX;
+    uint8_t bytes[12] = {0};
+    for (int j = 0; j < 12 && !spent; j++) {
+        bytes[j] = (uint8_t)(j < 4 ? drawer.reader >> (8 * j)
+                                   : drawer.count >> (8 * (j - 4)));
+    }
+    bool right = drawn.number == (spent ? 9 : 0) &&
+                 drawn.next.reader == drawer.reader &&
+                 drawn.next.count == drawer.count + (spent ? 0 : 1);
+    for (size_t i = 0; i < (name == DRAWER_IV ? 48 : 12); i += sizeof bytes) {
+        right = right && memcmp(drawn.bytes + i, bytes, sizeof bytes) == 0;
     }
     if (!right) {
         fail(thread,
              "reader %" PRIu32 ", count %" PRIu64 ": answered %" PRIu32
              ", and number, bytes or next drawer are wrong",
-             drawer.reader, drawer.count, answer->number);
+             drawer.reader, drawer.count, drawn.number);
     }
-}
-
-static vespruldo_drawer check_draw(struct thread *thread,
-                                   vespruldo_drawer drawer)
-{
-    const struct call running = {.function = &functions[DRAWER_DRAW]};
-    thread->running = &running;
-    vespruldo_drawn drawn = vespruldo_drawer_draw(drawer);
-    struct answer answer = {drawn.number, drawn.bytes, sizeof drawn.bytes,
-                            drawn.next};
-    check_answer(thread, drawer, &answer);
-    count(thread, DRAWER_DRAW, drawn.number);
-    thread->running = NULL;
-    return drawn.next;
-}
-
-static vespruldo_drawer check_iv(struct thread *thread, vespruldo_drawer drawer)
-{
-    const struct call running = {.function = &functions[DRAWER_IV]};
-    thread->running = &running;
-    vespruldo_drawn_iv drawn = vespruldo_drawer_iv(drawer);
-    struct answer answer = {drawn.number, drawn.bytes, sizeof drawn.bytes,
-                            drawn.next};
-    check_answer(thread, drawer, &answer);
-    count(thread, DRAWER_IV, drawn.number);
-    thread->running = NULL;
+    count(thread, name, drawn.number);
     return drawn.next;
 }
 
@@ -83,8 +66,8 @@ void drawer_case(struct thread *thread)
             "another reader or count");
     count(thread, DRAWER_START, 0);
     for (size_t draws = random_below(random, 6); draws > 0; draws--) {
-        drawer = one_in(random, 2) ? check_draw(thread, drawer)
-                                   : check_iv(thread, drawer);
+        drawer = check_draw(
+            thread, one_in(random, 2) ? DRAWER_DRAW : DRAWER_IV, drawer);
     }
     thread->running = NULL;
 }

@@ -32,6 +32,21 @@ pub enum Refusal {
 }
 
 impl Refusal {
+    /// All of them, in the order of their numbers.
+    pub const ALL: [Refusal; 11] = [
+        Refusal::KeyLength,
+        Refusal::NonceLength,
+        Refusal::DataLength,
+        Refusal::TextLength,
+        Refusal::TagLength,
+        Refusal::RoomLength,
+        Refusal::WrongTag,
+        Refusal::StreamTooLong,
+        Refusal::DrawerSpent,
+        Refusal::BookForm,
+        Refusal::ClassMissing,
+    ];
+
     /// The document's number.
     ///
     /// ```
@@ -84,42 +99,26 @@ pub(crate) fn outcome(number: u32, promised: &[Refusal]) -> Result<(), Refusal> 
 mod tests {
     use super::*;
 
-    const TABLE: [(u32, Refusal, &str); 11] = [
-        (1, Refusal::KeyLength, "key has a wrong length"),
-        (2, Refusal::NonceLength, "nonce or iv has a wrong length"),
-        (3, Refusal::DataLength, "associated data too long"),
-        (4, Refusal::TextLength, "text or block length not allowed"),
-        (5, Refusal::TagLength, "tag, or room for it, not 16 bytes"),
-        (
-            6,
-            Refusal::RoomLength,
-            "room too short (digest: not 1 to 64)",
-        ),
-        (
-            7,
-            Refusal::WrongTag,
-            "opening: tag is not the recomputed one",
-        ),
-        (
-            8,
-            Refusal::StreamTooLong,
-            "key stream: start counter plus blocks needed exceeds 2^32",
-        ),
-        (9, Refusal::DrawerSpent, "drawer spent"),
-        (10, Refusal::BookForm, "either key book badly formed"),
-        (
-            11,
-            Refusal::ClassMissing,
-            "neither book has an entry for the class",
-        ),
+    /// The words of document 01, from number 1 on.
+    const WORDS: [&str; 11] = [
+        "key has a wrong length",
+        "nonce or iv has a wrong length",
+        "associated data too long",
+        "text or block length not allowed",
+        "tag, or room for it, not 16 bytes",
+        "room too short (digest: not 1 to 64)",
+        "opening: tag is not the recomputed one",
+        "key stream: start counter plus blocks needed exceeds 2^32",
+        "drawer spent",
+        "either key book badly formed",
+        "neither book has an entry for the class",
     ];
 
     #[test]
     fn numbers_and_words_are_the_documents() {
-        let all = TABLE.map(|(_, refusal, _)| refusal);
-        assert_eq!(outcome(0, &all), Ok(()));
-        for (number, refusal, words) in TABLE {
-            assert_eq!(outcome(number, &all), Err(refusal));
+        assert_eq!(outcome(0, &Refusal::ALL), Ok(()));
+        for ((number, refusal), words) in (1..).zip(Refusal::ALL).zip(WORDS) {
+            assert_eq!(outcome(number, &Refusal::ALL), Err(refusal));
             assert_eq!(refusal.number(), number);
             assert_eq!(refusal.to_string(), words);
         }

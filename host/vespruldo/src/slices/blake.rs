@@ -1,6 +1,5 @@
 //! BLAKE2b with a key.
 
-use crate::archive::vespruldo_blake2b;
 use crate::refusal::{outcome, Refusal};
 
 /// What may be refused.
@@ -35,16 +34,5 @@ const PROMISED: [Refusal; 3] = [Refusal::KeyLength, Refusal::TextLength, Refusal
 /// than 64 bytes, [`Refusal::TextLength`] if the text is longer than 1,048,576
 /// bytes, [`Refusal::RoomLength`] if the room is not 1 to 64 bytes long.
 pub fn blake2b(key: &[u8], text: &[u8], digest: &mut [u8]) -> Result<(), Refusal> {
-    // SAFETY: see the crate's root.
-    let number = unsafe {
-        vespruldo_blake2b(
-            key.as_ptr(),
-            key.len(),
-            text.as_ptr(),
-            text.len(),
-            digest.as_mut_ptr(),
-            digest.len(),
-        )
-    };
-    outcome(number, &PROMISED)
+    outcome(call!(vespruldo_blake2b: key, text; digest), &PROMISED)
 }

@@ -1,6 +1,6 @@
 //! The lookup in two key books.
 
-use crate::archive::{vespruldo_key_find, Found};
+use crate::archive::Found;
 use crate::refusal::{outcome, Refusal};
 use crate::sizes::KEY_BYTES;
 
@@ -53,16 +53,7 @@ pub(crate) fn find_part<'a>(
     last_term: &'a [u8],
     class: u16,
 ) -> Result<&'a [u8; KEY_BYTES], Refusal> {
-    // SAFETY: see the crate's root.
-    let found = unsafe {
-        vespruldo_key_find(
-            this_term.as_ptr(),
-            this_term.len(),
-            last_term.as_ptr(),
-            last_term.len(),
-            class,
-        )
-    };
+    let found = call!(vespruldo_key_find: this_term, last_term; class;);
     part(&found, this_term, last_term)
 }
 

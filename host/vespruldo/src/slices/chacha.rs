@@ -1,6 +1,5 @@
 //! ChaCha20 as a key stream.
 
-use crate::archive::vespruldo_chacha20;
 use crate::refusal::{outcome, Refusal};
 
 /// What may be refused.
@@ -47,17 +46,8 @@ const PROMISED: [Refusal; 4] = [
 /// [`Refusal::TextLength`] if the text is longer than 1,048,576 bytes,
 /// [`Refusal::StreamTooLong`] if `start` plus the blocks needed exceeds 2^32.
 pub fn chacha20(key: &[u8], nonce: &[u8], start: u32, text: &mut [u8]) -> Result<(), Refusal> {
-    // SAFETY: see the crate's root.
-    let number = unsafe {
-        vespruldo_chacha20(
-            key.as_ptr(),
-            key.len(),
-            nonce.as_ptr(),
-            nonce.len(),
-            start,
-            text.as_mut_ptr(),
-            text.len(),
-        )
-    };
-    outcome(number, &PROMISED)
+    outcome(
+        call!(vespruldo_chacha20: key, nonce; start; text),
+        &PROMISED,
+    )
 }

@@ -1,19 +1,9 @@
 //! GIFT-128 on one block.
 
-use crate::archive::{vespruldo_gift_decipher, vespruldo_gift_encipher};
 use crate::refusal::{outcome, Refusal};
 
 /// What may be refused.
 const PROMISED: [Refusal; 2] = [Refusal::KeyLength, Refusal::TextLength];
-
-/// Either of the archive's two functions.
-type OneWay = unsafe extern "C" fn(*const u8, usize, *mut u8, usize) -> u32;
-
-fn call(one_way: OneWay, key: &[u8], block: &mut [u8]) -> Result<(), Refusal> {
-    // SAFETY: see the crate's root.
-    let number = unsafe { one_way(key.as_ptr(), key.len(), block.as_mut_ptr(), block.len()) };
-    outcome(number, &PROMISED)
-}
 
 /// Enciphers `block`, 16 bytes, under `key`, 16 bytes, by GIFT-128. The block
 /// is unchanged if this is refused.
@@ -32,7 +22,7 @@ fn call(one_way: OneWay, key: &[u8], block: &mut [u8]) -> Result<(), Refusal> {
 /// [`Refusal::KeyLength`] if the key is not 16 bytes long; otherwise
 /// [`Refusal::TextLength`] if the block is not.
 pub fn gift_encipher(key: &[u8], block: &mut [u8]) -> Result<(), Refusal> {
-    call(vespruldo_gift_encipher, key, block)
+    outcome(call!(vespruldo_gift_encipher: key; block), &PROMISED)
 }
 
 /// Deciphers `block`, 16 bytes, under `key`, 16 bytes, by GIFT-128: undoes
@@ -51,5 +41,5 @@ pub fn gift_encipher(key: &[u8], block: &mut [u8]) -> Result<(), Refusal> {
 ///
 /// As for [`gift_encipher`].
 pub fn gift_decipher(key: &[u8], block: &mut [u8]) -> Result<(), Refusal> {
-    call(vespruldo_gift_decipher, key, block)
+    outcome(call!(vespruldo_gift_decipher: key; block), &PROMISED)
 }

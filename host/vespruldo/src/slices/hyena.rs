@@ -1,21 +1,13 @@
 //! HyENA, sealing and opening.
 
-use crate::archive::{vespruldo_open, vespruldo_open_short, vespruldo_seal, vespruldo_seal_short};
 use crate::refusal::{outcome, Refusal};
 
-/// What opening may refuse; sealing, all but the last.
-const PROMISED: [Refusal; 7] = [
-    Refusal::KeyLength,
-    Refusal::NonceLength,
-    Refusal::DataLength,
-    Refusal::TextLength,
-    Refusal::TagLength,
-    Refusal::RoomLength,
-    Refusal::WrongTag,
-];
+/// What sealing may refuse: 1 to 6. Opening refuses wrong tags too.
+const SEALING: usize = 6;
+const OPENING: usize = 7;
 
-/// The same for the short forms.
-const PROMISED_SHORT: [Refusal; 6] = [
+/// What the short forms may refuse: the same without 3.
+const SHORT: [Refusal; 6] = [
     Refusal::KeyLength,
     Refusal::NonceLength,
     Refusal::TextLength,
@@ -77,24 +69,10 @@ pub fn seal(
     room: &mut [u8],
     tag: &mut [u8],
 ) -> Result<(), Refusal> {
-    // SAFETY: see the crate's root.
-    let number = unsafe {
-        vespruldo_seal(
-            key.as_ptr(),
-            key.len(),
-            nonce.as_ptr(),
-            nonce.len(),
-            data.as_ptr(),
-            data.len(),
-            text.as_ptr(),
-            text.len(),
-            room.as_mut_ptr(),
-            room.len(),
-            tag.as_mut_ptr(),
-            tag.len(),
-        )
-    };
-    outcome(number, &PROMISED[..6])
+    outcome(
+        call!(vespruldo_seal: key, nonce, data, text; room, tag),
+        &Refusal::ALL[..SEALING],
+    )
 }
 
 /// Opens what [`seal`] sealed: the text goes to the first bytes of `room`, as
@@ -144,24 +122,10 @@ pub fn open(
     tag: &[u8],
     room: &mut [u8],
 ) -> Result<(), Refusal> {
-    // SAFETY: see the crate's root.
-    let number = unsafe {
-        vespruldo_open(
-            key.as_ptr(),
-            key.len(),
-            nonce.as_ptr(),
-            nonce.len(),
-            data.as_ptr(),
-            data.len(),
-            ciphertext.as_ptr(),
-            ciphertext.len(),
-            tag.as_ptr(),
-            tag.len(),
-            room.as_mut_ptr(),
-            room.len(),
-        )
-    };
-    outcome(number, &PROMISED)
+    outcome(
+        call!(vespruldo_open: key, nonce, data, ciphertext, tag; room),
+        &Refusal::ALL[..OPENING],
+    )
 }
 
 /// [`seal`] without associated data: the same bytes as with the empty one.
@@ -187,22 +151,10 @@ pub fn seal_short(
     room: &mut [u8],
     tag: &mut [u8],
 ) -> Result<(), Refusal> {
-    // SAFETY: see the crate's root.
-    let number = unsafe {
-        vespruldo_seal_short(
-            key.as_ptr(),
-            key.len(),
-            nonce.as_ptr(),
-            nonce.len(),
-            text.as_ptr(),
-            text.len(),
-            room.as_mut_ptr(),
-            room.len(),
-            tag.as_mut_ptr(),
-            tag.len(),
-        )
-    };
-    outcome(number, &PROMISED_SHORT[..5])
+    outcome(
+        call!(vespruldo_seal_short: key, nonce, text; room, tag),
+        &SHORT[..SEALING - 1],
+    )
 }
 
 /// [`open`] without associated data: opens what [`seal_short`] sealed, or
@@ -236,20 +188,8 @@ pub fn open_short(
     tag: &[u8],
     room: &mut [u8],
 ) -> Result<(), Refusal> {
-    // SAFETY: see the crate's root.
-    let number = unsafe {
-        vespruldo_open_short(
-            key.as_ptr(),
-            key.len(),
-            nonce.as_ptr(),
-            nonce.len(),
-            ciphertext.as_ptr(),
-            ciphertext.len(),
-            tag.as_ptr(),
-            tag.len(),
-            room.as_mut_ptr(),
-            room.len(),
-        )
-    };
-    outcome(number, &PROMISED_SHORT)
+    outcome(
+        call!(vespruldo_open_short: key, nonce, ciphertext, tag; room),
+        &SHORT,
+    )
 }

@@ -1,6 +1,5 @@
 //! LIONESS on a wide block.
 
-use crate::archive::{vespruldo_lioness_decipher, vespruldo_lioness_encipher};
 use crate::refusal::{outcome, Refusal};
 
 /// What may be refused.
@@ -9,24 +8,6 @@ const PROMISED: [Refusal; 3] = [
     Refusal::NonceLength,
     Refusal::TextLength,
 ];
-
-/// Either of the archive's two functions.
-type OneWay = unsafe extern "C" fn(*const u8, usize, *const u8, usize, *mut u8, usize) -> u32;
-
-fn call(one_way: OneWay, key: &[u8], iv: &[u8], block: &mut [u8]) -> Result<(), Refusal> {
-    // SAFETY: see the crate's root.
-    let number = unsafe {
-        one_way(
-            key.as_ptr(),
-            key.len(),
-            iv.as_ptr(),
-            iv.len(),
-            block.as_mut_ptr(),
-            block.len(),
-        )
-    };
-    outcome(number, &PROMISED)
-}
 
 /// Enciphers `block`, 33 to 1,048,608 bytes, where it lies, under `key`, 128
 /// bytes, and `iv`, 48 bytes, by LIONESS. The block is unchanged if this is
@@ -49,7 +30,7 @@ fn call(one_way: OneWay, key: &[u8], iv: &[u8], block: &mut [u8]) -> Result<(), 
 /// 128 bytes long, [`Refusal::NonceLength`] if the iv is not 48 bytes long,
 /// [`Refusal::TextLength`] if the block is not 33 to 1,048,608 bytes long.
 pub fn lioness_encipher(key: &[u8], iv: &[u8], block: &mut [u8]) -> Result<(), Refusal> {
-    call(vespruldo_lioness_encipher, key, iv, block)
+    outcome(call!(vespruldo_lioness_encipher: key, iv; block), &PROMISED)
 }
 
 /// Deciphers `block` where it lies by LIONESS: undoes [`lioness_encipher`]
@@ -68,5 +49,5 @@ pub fn lioness_encipher(key: &[u8], iv: &[u8], block: &mut [u8]) -> Result<(), R
 ///
 /// As for [`lioness_encipher`].
 pub fn lioness_decipher(key: &[u8], iv: &[u8], block: &mut [u8]) -> Result<(), Refusal> {
-    call(vespruldo_lioness_decipher, key, iv, block)
+    outcome(call!(vespruldo_lioness_decipher: key, iv; block), &PROMISED)
 }

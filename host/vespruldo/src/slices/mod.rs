@@ -4,6 +4,24 @@
 //! the crate's root rules out, and nothing is allocated: they write to room
 //! that is lent.
 
+/// Calls a function of the archive with the slices that it reads, the number
+/// that some take, and the slices that it writes.
+macro_rules! call {
+    ($function:ident: $($read:ident),*; $($written:ident),*) => {
+        call!($function: $($read),*; ; $($written),*)
+    };
+    ($function:ident: $($read:ident),*; $($number:ident)?; $($written:ident),*) => {
+        // SAFETY: see the crate's root.
+        unsafe {
+            crate::archive::$function(
+                $($read.as_ptr(), $read.len(),)*
+                $($number,)?
+                $($written.as_mut_ptr(), $written.len(),)*
+            )
+        }
+    };
+}
+
 mod blake;
 mod books;
 mod chacha;

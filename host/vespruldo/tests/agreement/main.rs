@@ -18,20 +18,6 @@ use c::{comment_beside, Header};
 use model::{camel_case, differences};
 use vespruldo::Refusal;
 
-const REFUSALS: [Refusal; 11] = [
-    Refusal::KeyLength,
-    Refusal::NonceLength,
-    Refusal::DataLength,
-    Refusal::TextLength,
-    Refusal::TagLength,
-    Refusal::RoomLength,
-    Refusal::WrongTag,
-    Refusal::StreamTooLong,
-    Refusal::DrawerSpent,
-    Refusal::BookForm,
-    Refusal::ClassMissing,
-];
-
 /// The texts that are compared.
 #[derive(Clone)]
 struct Sources {
@@ -89,11 +75,11 @@ impl Sources {
             let words = comment_beside(&self.header, name).to_string();
             (camel_case(without_prefix(name)), (number, words))
         });
-        let in_rust = REFUSALS.map(|refusal| {
+        let in_rust = Refusal::ALL.map(|refusal| {
             let number = u64::from(refusal.number());
             (format!("{refusal:?}"), (number, refusal.to_string()))
         });
-        // The list above may lack one, the source cannot.
+        // The list of all may lack one, the source cannot.
         let in_source = rust::refusals(&self.refusal);
         let listed = in_rust.clone().map(|(name, (number, _))| (name, number));
         let in_rust = BTreeMap::from(in_rust);
