@@ -280,6 +280,9 @@ static void print_row(const struct subject *subject, int l,
 
 void time_versions(const struct subject *subject)
 {
+    if (getenv("COMPARE_ONLY") != NULL) { /* bench/run --compare */
+        return;
+    }
     struct timing timings[MOST_LENGTHS][VERSIONS] = {0};
     uint8_t *bytes = buffer_for(subject);
     calibrate(subject, bytes, timings);
