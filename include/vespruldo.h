@@ -4,10 +4,13 @@
 
    Buffers. A buffer is a pointer and its length in bytes, as many as there are at
    that place. A length that a function does not allow is refused, whatever it
-   is. Where the length is 0 the pointer is not followed and may be NULL. Two buffers of one call must not
-   overlap where one of them is written (the pointers without `const`). No
-   function keeps a pointer, uses memory of its own between calls or takes any
-   from a heap, so calls on different buffers may run at the same time.
+   is. Where the length is 0 the pointer is not followed and may be NULL. Two
+   buffers of one call must not overlap where one of them is written (the
+   pointers without `const`).
+
+   Threads. No function keeps a pointer, holds memory of its own between calls or
+   takes any from a heap. Calls may run at the same time as long as none writes
+   to a buffer that another was lent.
 
    Numbers. What is answered is VESPRULDO_DONE, or the number of the refusal;
    where several apply, the smallest. A refusal changes no buffer, but for one:

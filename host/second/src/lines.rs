@@ -52,7 +52,7 @@ pub fn field(text: &[u8], order: Order) -> Option<Vec<u8>> {
     if text == b"-" {
         return Some(Vec::new());
     }
-    if text.is_empty() || !text.len().is_multiple_of(2) || text.len() / 2 > LONGEST_FIELD {
+    if text.is_empty() || text.len() % 2 != 0 || text.len() / 2 > LONGEST_FIELD {
         return None;
     }
     let pair = |two: &[u8]| Some(16 * digit(two[0])? + digit(two[1])?);
