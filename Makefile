@@ -21,7 +21,7 @@ install: $(archive)
 	install -d '$(DESTDIR)$(includedir)' '$(DESTDIR)$(libdir)/pkgconfig'
 	install -m 644 include/vespruldo.h '$(DESTDIR)$(includedir)'
 	install -m 644 $(archive) '$(DESTDIR)$(libdir)'
-	sed -e 's|@PREFIX@|$(PREFIX)|' -e 's|@VERSION@|$(version)|' vespruldo.pc.in \
+	sed -e 's|@includedir@|$(includedir)|' -e 's|@libdir@|$(libdir)|' -e 's|@version@|$(version)|' vespruldo.pc.in \
 		>'$(DESTDIR)$(libdir)/pkgconfig/vespruldo.pc'
 
 uninstall:
