@@ -1,6 +1,6 @@
 /* Constant time, checked on the machine code: to be run under valgrind's
-   memcheck, which follows every bit that is marked undefined and counts an error
-   for each conditional jump and each address that depends on one.
+   memcheck, which follows every bit that is marked undefined and counts an
+   error for each conditional jump and each address that depends on one.
 
    Marked are the bytes of every buffer that is lent, the start counter of a key
    stream, and drawers. Not marked are lengths, and of key books the counts and
@@ -27,7 +27,7 @@ struct exception {
 
 static const struct exception none = {"nothing", 0};
 static const struct exception verdict = {"the verdict of a tag (7)", 1};
-static const struct exception stream_end = {"where a key stream would end (8)", 1};
+static const struct exception ending = {"where a key stream would end (8)", 1};
 static const struct exception spent = {"whether a drawer is spent (9)", 1};
 
 static unsigned long calls;
@@ -42,7 +42,8 @@ static void begin(void)
 /* Ends a call that answered `number`. A number that itself depends on marked
    bits is one place with the jump that made it, and a place where there was no
    such jump. */
-static void end(const char *function, uint32_t number, uint32_t wanted, const struct exception *allowed)
+static void end(const char *function, uint32_t number, uint32_t wanted,
+                const struct exception *allowed)
 {
     unsigned long places = VALGRIND_COUNT_ERRORS - errors_before;
     uint32_t marks = 0;
@@ -52,8 +53,10 @@ static void end(const char *function, uint32_t number, uint32_t wanted, const st
         places = 1;
     }
     if (number != wanted || places != allowed->places) {
-        printf("%s answered %u where %u is right; %lu places depend on marked bits, allowed is %s (%lu)\n", function,
-               (unsigned)number, (unsigned)wanted, places, allowed->name, allowed->places);
+        printf("%s answered %u where %u is right; %lu places depend on marked "
+               "bits, allowed is %s (%lu)\n",
+               function, (unsigned)number, (unsigned)wanted, places,
+               allowed->name, allowed->places);
         failed = true;
     }
     calls++;
@@ -66,13 +69,16 @@ static void mark(void *bytes, size_t len)
 
 /* Each byte must hold a marked bit, or the marks were lost on the way and the
    calls show nothing. */
-static void must_be_marked(const char *function, const uint8_t *bytes, size_t len)
+static void must_be_marked(const char *function, const uint8_t *bytes,
+                           size_t len)
 {
     uint8_t marks[LONGEST];
     (void)VALGRIND_GET_VBITS(bytes, marks, len);
     for (size_t i = 0; i < len; i++) {
         if (marks[i] == 0) {
-            printf("%s: byte %zu of the %zu that it wrote depends on nothing marked\n", function, i, len);
+            printf("%s: byte %zu of the %zu that it wrote depends on nothing "
+                   "marked\n",
+                   function, i, len);
             failed = true;
         }
     }
@@ -99,22 +105,26 @@ struct function {
 
 static uint32_t seal(struct lengths n)
 {
-    return vespruldo_seal(key, n.key, nonce, n.nonce, data, n.data, text, n.text, ciphertext, n.room, tag, n.tag);
+    return vespruldo_seal(key, n.key, nonce, n.nonce, data, n.data, text,
+                          n.text, ciphertext, n.room, tag, n.tag);
 }
 
 static uint32_t open_sealed(struct lengths n)
 {
-    return vespruldo_open(key, n.key, nonce, n.nonce, data, n.data, ciphertext, n.text, tag, n.tag, room, n.room);
+    return vespruldo_open(key, n.key, nonce, n.nonce, data, n.data, ciphertext,
+                          n.text, tag, n.tag, room, n.room);
 }
 
 static uint32_t seal_short(struct lengths n)
 {
-    return vespruldo_seal_short(key, n.key, nonce, n.nonce, text, n.text, ciphertext, n.room, tag, n.tag);
+    return vespruldo_seal_short(key, n.key, nonce, n.nonce, text, n.text,
+                                ciphertext, n.room, tag, n.tag);
 }
 
 static uint32_t open_short(struct lengths n)
 {
-    return vespruldo_open_short(key, n.key, nonce, n.nonce, ciphertext, n.text, tag, n.tag, room, n.room);
+    return vespruldo_open_short(key, n.key, nonce, n.nonce, ciphertext, n.text,
+                                tag, n.tag, room, n.room);
 }
 
 static uint32_t gift_encipher(struct lengths n)
@@ -154,10 +164,12 @@ static const struct function
     f_open_short = {"vespruldo_open_short", open_short, &verdict, room},
     f_gift_encipher = {"vespruldo_gift_encipher", gift_encipher, &none, text},
     f_gift_decipher = {"vespruldo_gift_decipher", gift_decipher, &none, text},
-    f_chacha20 = {"vespruldo_chacha20", chacha20, &stream_end, text},
+    f_chacha20 = {"vespruldo_chacha20", chacha20, &ending, text},
     f_blake2b = {"vespruldo_blake2b", blake2b, &none, room},
-    f_lioness_encipher = {"vespruldo_lioness_encipher", lioness_encipher, &none, text},
-    f_lioness_decipher = {"vespruldo_lioness_decipher", lioness_decipher, &none, text};
+    f_lioness_encipher = {"vespruldo_lioness_encipher", lioness_encipher, &none,
+                          text},
+    f_lioness_decipher = {"vespruldo_lioness_decipher", lioness_decipher, &none,
+                          text};
 
 static void mark_all(void)
 {
@@ -168,7 +180,8 @@ static void mark_all(void)
     mark(&start, sizeof start);
 }
 
-static void check(const struct function *f, struct lengths n, uint32_t wanted, const struct exception *allowed)
+static void check(const struct function *f, struct lengths n, uint32_t wanted,
+                  const struct exception *allowed)
 {
     mark_all();
     begin();
@@ -194,7 +207,8 @@ static void check_wrong_tags(const struct function *f, struct lengths n)
 
 static void check_cards(size_t data_len, size_t len)
 {
-    struct lengths n = {VESPRULDO_KEY_BYTES, VESPRULDO_NONCE_BYTES, data_len, len, VESPRULDO_TAG_BYTES, len};
+    struct lengths n = {VESPRULDO_KEY_BYTES, VESPRULDO_NONCE_BYTES, data_len,
+                        len, VESPRULDO_TAG_BYTES, len};
     check_done(&f_seal, n);
     must_be_marked("vespruldo_seal", tag, VESPRULDO_TAG_BYTES);
     check_done(&f_open, n);
@@ -206,15 +220,20 @@ static void check_cards(size_t data_len, size_t len)
 
 static void check_others(size_t len)
 {
-    struct lengths stream = {.key = VESPRULDO_CHACHA20_KEY_BYTES, .nonce = VESPRULDO_CHACHA20_NONCE_BYTES, .text = len};
+    struct lengths stream = {.key = VESPRULDO_CHACHA20_KEY_BYTES,
+                             .nonce = VESPRULDO_CHACHA20_NONCE_BYTES,
+                             .text = len};
     start = 7;
     check_done(&f_chacha20, stream);
 
-    struct lengths digest = {.key = 44, .text = len, .room = VESPRULDO_BLAKE2B_DIGEST_MAX};
+    struct lengths digest = {
+        .key = 44, .text = len, .room = VESPRULDO_BLAKE2B_DIGEST_MAX};
     check_done(&f_blake2b, digest);
-    struct lengths shorter = {.key = VESPRULDO_BLAKE2B_KEY_MAX, .text = len, .room = 33};
+    struct lengths shorter = {
+        .key = VESPRULDO_BLAKE2B_KEY_MAX, .text = len, .room = 33};
     check_done(&f_blake2b, shorter);
-    struct lengths without_key = {.text = len + 1, .room = VESPRULDO_BLAKE2B_DIGEST_MAX};
+    struct lengths without_key = {.text = len + 1,
+                                  .room = VESPRULDO_BLAKE2B_DIGEST_MAX};
     check_done(&f_blake2b, without_key);
 
     struct lengths wide = {
@@ -230,7 +249,8 @@ static void check_others(size_t len)
    ChaCha20 and BLAKE2b. */
 static void check_buffers(void)
 {
-    static const size_t lens[] = {0, 1, 7, 8, 9, 15, 16, 17, 31, 32, 33, 48, 63, 64, 65, 127, 128, 129, 256, 257};
+    static const size_t lens[] = {0,  1,  7,  8,  9,  15,  16,  17,  31,  32,
+                                  33, 48, 63, 64, 65, 127, 128, 129, 256, 257};
     static const size_t data_lens[] = {0, 1, 8, 15, 16, 17, 40};
     for (size_t i = 0; i < COUNT(lens); i++) {
         for (size_t j = 0; j < COUNT(data_lens); j++) {
@@ -238,7 +258,8 @@ static void check_buffers(void)
         }
         check_others(lens[i]);
     }
-    struct lengths block = {.key = VESPRULDO_KEY_BYTES, .text = VESPRULDO_GIFT_BLOCK_BYTES};
+    struct lengths block = {.key = VESPRULDO_KEY_BYTES,
+                            .text = VESPRULDO_GIFT_BLOCK_BYTES};
     check_done(&f_gift_encipher, block);
     check_done(&f_gift_decipher, block);
 }
@@ -252,14 +273,22 @@ static void check_refusals(void)
         struct lengths n;
         uint32_t number;
     } cases[] = {
-        {&f_seal, {15, 12, 9, 20, 16, 20}, 1},      {&f_seal, {16, 13, 9, 20, 16, 20}, 2},
-        {&f_seal, {16, 12, 65537, 20, 16, 20}, 3},  {&f_seal, {16, 12, 9, 1048577, 16, 20}, 4},
-        {&f_seal, {16, 12, 9, 20, 15, 20}, 5},      {&f_seal, {16, 12, 9, 20, 16, 19}, 6},
-        {&f_open, {15, 12, 9, 20, 16, 20}, 1},      {&f_open, {16, 13, 9, 20, 16, 20}, 2},
-        {&f_open, {16, 12, 65537, 20, 16, 20}, 3},  {&f_open, {16, 12, 9, 1048577, 16, 20}, 4},
-        {&f_open, {16, 12, 9, 20, 15, 20}, 5},      {&f_open, {16, 12, 9, 20, 16, 19}, 6},
-        {&f_seal_short, {0, 12, 0, 20, 16, 20}, 1}, {&f_seal_short, {16, 12, 0, 20, 16, 19}, 6},
-        {&f_open_short, {0, 12, 0, 20, 16, 20}, 1}, {&f_open_short, {16, 12, 0, 20, 16, 19}, 6},
+        {&f_seal, {15, 12, 9, 20, 16, 20}, 1},
+        {&f_seal, {16, 13, 9, 20, 16, 20}, 2},
+        {&f_seal, {16, 12, 65537, 20, 16, 20}, 3},
+        {&f_seal, {16, 12, 9, 1048577, 16, 20}, 4},
+        {&f_seal, {16, 12, 9, 20, 15, 20}, 5},
+        {&f_seal, {16, 12, 9, 20, 16, 19}, 6},
+        {&f_open, {15, 12, 9, 20, 16, 20}, 1},
+        {&f_open, {16, 13, 9, 20, 16, 20}, 2},
+        {&f_open, {16, 12, 65537, 20, 16, 20}, 3},
+        {&f_open, {16, 12, 9, 1048577, 16, 20}, 4},
+        {&f_open, {16, 12, 9, 20, 15, 20}, 5},
+        {&f_open, {16, 12, 9, 20, 16, 19}, 6},
+        {&f_seal_short, {0, 12, 0, 20, 16, 20}, 1},
+        {&f_seal_short, {16, 12, 0, 20, 16, 19}, 6},
+        {&f_open_short, {0, 12, 0, 20, 16, 20}, 1},
+        {&f_open_short, {16, 12, 0, 20, 16, 19}, 6},
         {&f_gift_encipher, {.key = 17, .text = 16}, 1},
         {&f_gift_decipher, {.key = 16, .text = 17}, 4},
         {&f_chacha20, {.key = 31, .nonce = 12, .text = 20}, 1},
@@ -277,7 +306,7 @@ static void check_refusals(void)
     }
     struct lengths two_blocks = {.key = 32, .nonce = 12, .text = 65};
     start = UINT32_MAX;
-    check(&f_chacha20, two_blocks, VESPRULDO_STREAM_TOO_LONG, &stream_end);
+    check(&f_chacha20, two_blocks, VESPRULDO_STREAM_TOO_LONG, &ending);
 }
 
 /* ---- Drawers and key books ---- */
@@ -291,9 +320,11 @@ static void check_draws(uint64_t count, uint32_t wanted)
     vespruldo_drawer drawer = vespruldo_drawer_start(reader, count);
     end("vespruldo_drawer_start", VESPRULDO_DONE, VESPRULDO_DONE, &none);
     begin();
-    end("vespruldo_drawer_draw", vespruldo_drawer_draw(drawer).number, wanted, &spent);
+    end("vespruldo_drawer_draw", vespruldo_drawer_draw(drawer).number, wanted,
+        &spent);
     begin();
-    end("vespruldo_drawer_iv", vespruldo_drawer_iv(drawer).number, wanted, &spent);
+    end("vespruldo_drawer_iv", vespruldo_drawer_iv(drawer).number, wanted,
+        &spent);
 }
 
 #define ENTRIES 3
@@ -319,13 +350,17 @@ static void check_books(void)
     make_book(this_term, 1);
     make_book(last_term, 2);
     for (uint16_t class_number = 0; class_number < 6; class_number++) {
-        uint32_t wanted = 1 <= class_number && class_number <= 4 ? VESPRULDO_DONE : VESPRULDO_CLASS_MISSING;
+        uint32_t wanted = 1 <= class_number && class_number <= 4
+                              ? VESPRULDO_DONE
+                              : VESPRULDO_CLASS_MISSING;
         begin();
-        vespruldo_found found = vespruldo_key_find(this_term, BOOK, last_term, BOOK, class_number);
+        vespruldo_found found =
+            vespruldo_key_find(this_term, BOOK, last_term, BOOK, class_number);
         end("vespruldo_key_find", found.number, wanted, &none);
     }
     begin();
-    vespruldo_found found = vespruldo_key_find(this_term, BOOK, last_term, BOOK - 1, 1);
+    vespruldo_found found =
+        vespruldo_key_find(this_term, BOOK, last_term, BOOK - 1, 1);
     end("vespruldo_key_find", found.number, VESPRULDO_BOOK_FORM, &none);
 }
 
@@ -374,6 +409,7 @@ int main(void)
     check_draws(5, VESPRULDO_DONE);
     check_draws(UINT64_MAX, VESPRULDO_DRAWER_SPENT);
     check_books();
-    printf("constant time: %lu calls%s\n", calls, failed ? ", not all as they should be" : "");
+    printf("constant time: %lu calls%s\n", calls,
+           failed ? ", not all as they should be" : "");
     return failed ? 1 : 0;
 }
