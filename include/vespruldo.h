@@ -16,9 +16,9 @@
    where several apply, the smallest. A refusal changes no buffer, but for one:
    after VESPRULDO_WRONG_TAG the bytes meant for the text are all zero.
 
-   Every function has been proved to do this and no more, for all inputs; what
-   is believed and what is only tested stands in docs/READING.md, and what is
-   said of timing and of secrets left behind in docs/SECURITY.md. */
+   What each function answers and what its buffers hold then has been proved, for
+   all inputs. docs/READING.md says what is believed and what is only tested,
+   docs/SECURITY.md what is known of timing and of secrets left behind. */
 
 #ifndef VESPRULDO_H
 #define VESPRULDO_H
@@ -93,10 +93,10 @@ uint32_t vespruldo_seal(const uint8_t *key, size_t key_len,
 /* Opens what was sealed: writes the text, as many bytes as `ciphertext` has, to
    `room`. The rest of longer room keeps its bytes.
 
-   Refusals: as for vespruldo_seal (room unchanged), and last WRONG_TAG: key,
-   nonce, data, ciphertext or tag is not what it was at sealing. The first bytes
-   of the room, as many as the ciphertext has, are then each 0 and the rest
-   unchanged. */
+   Refusals: as for vespruldo_seal (room unchanged), and last WRONG_TAG (the tag
+   is not the recomputed one: key, nonce, data, ciphertext or tag is not what it
+   was at sealing). The first bytes of the room, as many as the ciphertext has,
+   are then each 0 and the rest unchanged. */
 VESPRULDO_LOOK_AT_ANSWER
 uint32_t vespruldo_open(const uint8_t *key, size_t key_len,
                         const uint8_t *nonce, size_t nonce_len,

@@ -1,7 +1,7 @@
 // Key books: the key of a class, in this term's book or else in last term's.
 ghost use mathlib.Core.Path.{_≡_};
 ghost use mathlib.Core.Bool.{cond};
-ghost use Prim.Native.Nat.{_≤_};
+ghost use Prim.Native.Nat.{_+_, _*_, _≤_};
 ghost use lib.Dec.{eqb};
 ghost use lib.ListN.{getD};
 ghost use Rattle.words.specs.Block.{part};
@@ -131,9 +131,9 @@ fn class_at(book: &[u8], i: usize) -> usize
     number_at(book, 2 + 18 * i)
 }
 
-// The number of two bytes.
+// The number of two bytes; no place in a book lies further on.
 fn number_at(book: &[u8], at: usize) -> usize
-    requires { ⌜ at ≤ 1179632 ⌝ }
+    requires { ⌜ at ≤ 2 + 18 * 65535 ⌝ }
     ensures { λ r. ⌜ (r ≡ number (part (now (book .entry)) at 2)) × (r ≤ 65535) ⌝ }
 {
     byte_at(book, at + 1) * 256 + byte_at(book, at)
