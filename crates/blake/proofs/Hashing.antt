@@ -154,9 +154,9 @@ length-chain : (key text : List ℕ) (nn : ℕ) → length (unwords 8 (hashed ke
 length-chain key text nn = length-unwords 8 (hashed key text nn) ∙ ap (λ (n : ℕ). 8 * n) (length-hashed key text nn)
 
 -- the whole of it
-pub length-digest : (key text : List ℕ) → length (digest key text 64) ≡ 64
+pub length-digest : (key text : List ℕ) (n : ℕ) → n ≤ 64 → length (digest key text n) ≡ n
 unfolding digest
-length-digest key text = length-take-le 64 (unwords 8 (hashed key text 64)) (omega (arith, length-chain key text 64))
+length-digest key text n h = length-take-le n (unwords 8 (hashed key text n)) (omega (arith, length-chain key text n))
 
 pub digest-is : (key text room out h : List ℕ) → length room ≤ 64 → h ≡ hashed key text (length room) → out ≡ sets room 0 (unwords 8 h) → out ≡ digest key text (length room)
 unfolding digest

@@ -14,7 +14,7 @@ use Rattle.words.specs.Refuse.{Answer, answered, refuse}
 use Rattle.words.proofs.Blocks.{value-halves, value-is, value-lt, loaded-all, stored-all}
 use Rattle.words.proofs.Bytes.{number-bytes}
 use Rattle.words.proofs.Over.{over-over}
-use Rattle.words.proofs.Refusals.{Clear, answer-done, numberOf, refuse-given, refuse-clear}
+use Rattle.words.proofs.Refusals.{Clear, refuse-clear, judged-refused, judged-clear}
 use Rattle.gift.specs.Gift.{encipher}
 use Rattle.gift.proofs.Entry.{enciphers-is}
 use Rattle.hyena.specs.declared.keyed.Keyed.{Keyed}
@@ -58,16 +58,13 @@ ran way key nonce a d room e {k} {r} {s} {t} {u} {room′} lk ek ee es et eu er 
 -- ---- refusals
 
 module _ (key nonce ad text tag room : List ℕ) {r : ℕ} (er : answered r 0 ≡ refusal (length key) (length nonce) (length ad) (length text) (length tag) (length room)) where
-  is-number : r ≡ numberOf (refusals key nonce ad text tag room)
-  unfolding refusal
-  is-number = ap (λ (a : Answer ℕ). a .number) er
-
   pub refused : {A : Type 0} (kept : A) (follows : Answer A) → (r ≡ 0 → ⊥) → answered r kept ≡ refuse (refusals key nonce ad text tag room) kept follows
-  refused kept follows h =
-      ap (λ (n : ℕ). answered n kept) is-number ∙ sym (refuse-given kept follows (refusals key nonce ad text tag room) (λ e. h (is-number ∙ e)))
+  unfolding refusal
+  refused = judged-refused (refusals key nonce ad text tag room) er
 
   pub clear : r ≡ 0 → Clear (refusals key nonce ad text tag room)
-  clear e = answer-done 0 0 (refusals key nonce ad text tag room) tt (sym is-number ∙ e) .0
+  unfolding refusal
+  clear = judged-clear (refusals key nonce ad text tag room) er tt
 
 -- the lengths that are not refused
 module _ (key nonce ad text tag room : List ℕ) (c : Clear (refusals key nonce ad text tag room)) where

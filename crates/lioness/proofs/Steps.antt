@@ -5,6 +5,7 @@ use mathlib.Core.List.{List, _++_, append-nil}
 use Prim.Native.Nat.{ℕ, _+_, _-_, _*_, _/_, _^_, _≤_}
 use native.Mathlib.Nat.{zero-add}
 use native.Mathlib.Omega.{arith}
+use lib.Dec.{lit≤}
 use lib.ListN.{length, take, drop, replicate, length-drop, length-append, take-append-drop, drop-of-length-le}
 use lib.Seq.{take-all, length-take-le}
 use borrow.Rule.Slice.PartMut.{putMid}
@@ -86,7 +87,7 @@ module _ (j : ℕ) (key iv : List ℕ) (low : 1 ≤ j) (high : j ≤ 4) (hk : le
         let es′ : answered r d ≡ digesting k R room = es ∙ rw lent in
         let ed : d ≡ blake k R = ap (λ (y : Answer (List ℕ)). y .left) (es′ ∙ digesting-done k R room lk short none (omega arith)) ∙ ap (λ (n : ℕ). digest k R n) er in
         let t = take 32 (blake k R) in
-        let lt : length t ≡ 32 = length-take-le 32 (blake k R) (omega (arith, length-digest k R)) in
+        let lt : length t ≡ 32 = length-take-le 32 (blake k R) (omega (arith, length-digest k R 64 (lit≤ tt))) in
         eb ∙ ap (λ (l : List ℕ). plusAt 0 block (take 32 l)) ed ∙ ap (λ (l : List ℕ). plusAt 0 l t) (sym (take-append-drop 32 block))
         ∙ plusAt-part (left block) R t (length-take-le 32 block (omega arith) ∙ sym lt)
         ∙ ap (λ (l : List ℕ). plus (left block) (take 32 (blake l R)) ++ R) ek

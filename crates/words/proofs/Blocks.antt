@@ -159,3 +159,10 @@ stored-back s n x ls h =
     let v = take n (bytes 16 x) in
     let lv : length v ≡ n = length-take-le n (bytes 16 x) (omega (arith, length-bytes 16 x)) in
     ap (take n) (sets-eq v s 0 (omega arith)) ∙ take-at v (drop (0 + length v) s) n lv
+
+-- bytes that are loaded and stored are copied
+pub copied : (s room : List ℕ) (at : ℕ) {b : Block} → Bytes s → length s ≤ 16 → b ≡ halves (loaded s 0 (length s)) → stored room at (length s) (value b) ≡ sets room at s
+unfolding stored
+copied s room at hs short e =
+    ap (λ (x : ℕ). sets room at (take (length s) (bytes 16 x))) (value-is e)
+    ∙ ap (sets room at) (loaded-back s 0 (length s) hs short (omega arith) ∙ take-all (length s) s (omega arith))

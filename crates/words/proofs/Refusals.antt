@@ -101,6 +101,17 @@ module _ {A : Type 0} (done kept : A) (rows : List Row) where
       (λ (g : Given rows). subst⁻¹ P (g .is kept (answered 0 done)) (hk (g .row) (g .some n)))
       (clear-or-given rows)
 
+-- what a function answers that goes by the rows alone, for the entry point that calls it
+module _ (rows : List Row) {r : ℕ} (er : answered {A = ℕ} r 0 ≡ answer rows 0 0) where
+  is-number : r ≡ numberOf rows
+  is-number = ap number er
+
+  pub judged-refused : {A : Type 0} (kept : A) (follows : Answer A) → (r ≡ 0 → ⊥) → answered r kept ≡ refuse rows kept follows
+  judged-refused kept follows h = ap (λ (n : ℕ). answered n kept) is-number ∙ sym (refuse-given kept follows rows (λ e. h (is-number ∙ e)))
+
+  pub judged-clear : T (numbered rows) → r ≡ 0 → Clear rows
+  judged-clear n e = answer-done 0 0 rows n (sym is-number ∙ e) .0
+
 -- an entry point that works in place on memory x, and one that undoes it
 module _ {A : Type 0} (rows : A → List Row) (there back : A → A) (x : A) where
   -- after the answer a, the second call answers the same number and leaves x
