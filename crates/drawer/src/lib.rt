@@ -48,7 +48,7 @@ pub fn draw(d: Drawer) -> Drawn
     }
     Drawn {
         number: 0,
-        bytes: nonce_of(d),
+        bytes: state(d),
         next: start(d.reader, d.count + 1),
     }
 }
@@ -72,7 +72,11 @@ pub fn iv(d: Drawer) -> DrawnIv
     }
 }
 
-fn nonce_of(d: Drawer) -> [u8; 12]
+// The bytes of a drawer's two numbers.
+pub type Numbers = [u8; 12];
+
+// The number that a drawer draws next, unless it is spent.
+pub fn state(d: Drawer) -> Numbers
     ensures { λ r. ⌜ r ≡ nonce d ⌝ }
 {
     let mut b = [0u8; 12];

@@ -8,8 +8,8 @@ returns : tie.Need-returns
 unfolding drawing
 returns c = simp (eq-eqb _ _ (c .if1 .taken))
 
-nonce-of-requires : tie.Need-nonce-of-requires
-nonce-of-requires c κs = search needs
+state-requires : tie.Need-state-requires
+state-requires c κs = search needs
 
 add-start : tie.Need-add-start
 add-start c = search needs
@@ -19,7 +19,7 @@ start-requires c κs = search needs
 
 returns-2 : tie.Need-returns-2
 unfolding drawing
-returns-2 c = simp (ne-eqb _ _ (c .before .before .before .if1 .left), c .before .before .nonce-of .ensures, c .start .ensures)
+returns-2 c = simp (ne-eqb _ _ (c .before .before .before .if1 .left), c .before .before .state .ensures, c .start .ensures)
 
 pub draw-spec : {M : Type 1} → statement M
-draw-spec = tie.close (tie.spec returns nonce-of-requires add-start start-requires returns-2)
+draw-spec = tie.close (tie.spec returns state-requires add-start start-requires returns-2)

@@ -1,7 +1,7 @@
 use Rattle.drawer.proofs.Steps.{nonce-is}
 use borrow.Author.Needs.{needs}
-use Rattle.drawer.proofs.nonce_of.Statement.{statement}
-use Rattle.drawer.proofs.nonce_of.Tie as tie
+use Rattle.drawer.proofs.state.Statement.{statement}
+use Rattle.drawer.proofs.state.Tie as tie
 
 slice-aggregate-store : tie.Need-slice-aggregate-store
 slice-aggregate-store c = search needs
@@ -21,8 +21,8 @@ store-requires-2 c κs = search needs
 returns : tie.Need-returns
 returns c = nonce-is _ _ _ (c .before .before .before .before .store .ensures) (c .before .store2 .ensures)
 
-pub nonce-of-spec : {M : Type 1} → statement M
-nonce-of-spec =
+pub state-spec : {M : Type 1} → statement M
+state-spec =
     tie.close
     (tie.spec
     slice-aggregate-store

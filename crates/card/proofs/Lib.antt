@@ -1,0 +1,3 @@
+pub mod Cards
+pub mod Single
+pub mod Trip

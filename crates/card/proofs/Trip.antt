@@ -1,0 +1,106 @@
+-- A card that was sealed opens: its text comes back.
+-- Assumes nothing.
+use mathlib.Core.Path.{_≡_, refl, sym, ap, ap₂, _∙_}
+use mathlib.Core.Bool.{false, not}
+use mathlib.Core.List.{List, [], _++_, append-nil, append-assoc}
+use Prim.Native.Nat.{ℕ, _+_, _<_, _≤_}
+use native.Mathlib.Omega.{arith}
+use lib.ListN.{length, take, drop, replicate, length-append}
+use lib.Seq.{take-at, drop-at}
+use borrow.Author.Tests.{eqb-true, not-false, ltb-false, eq-eqb, le-ltb}
+use Rattle.words.specs.Block.{part}
+use Rattle.words.specs.Bytes.{number, bytes, over}
+use Rattle.words.specs.Refuse.{Answer, answered}
+use Rattle.words.proofs.Bytes.{length-bytes, number-bytes}
+use Rattle.words.proofs.Over.{take-over}
+use Rattle.words.proofs.Refusals.{Clear, refuse-clear, answer-done}
+use Rattle.hyena.specs.Entry as hyena
+use Rattle.hyena.proofs.Trip.{length-outputs}
+use Rattle.hyena.proofs.Demands.{opening-sealing}
+use Rattle.card.specs.Card.{cardOf, sealRows, sealing, lengthIn, nonceIn, ciphertextIn, tagIn, openRows, opening}
+use Rattle.card.proofs.Cards.{sealed}
+
+module _ (key nonce ad text : List ℕ) (lk : length key ≡ 16) (ln : length nonce ≡ 12) (la : length ad ≤ 65536) (lt : length text ≤ 65535) where
+  abbrev ct : List ℕ
+  ct = hyena.ciphertextOf key nonce ad text
+
+  abbrev tag : List ℕ
+  tag = hyena.tagOf key nonce ad text
+
+  abbrev card : List ℕ
+  card = cardOf key nonce ad text
+
+  length-ct : length ct ≡ length text
+  length-ct = length-outputs (hyena.gift key) nonce ad false text
+
+  length-tag : length tag ≡ 16
+  length-tag = length-bytes 16 _
+
+  -- the parts of a card, from the front
+  at-nonce : card ≡ nonce ++ (bytes 2 (length text) ++ (ct ++ tag))
+  unfolding cardOf
+  at-nonce = append-assoc (nonce ++ bytes 2 (length text)) ct tag ∙ append-assoc nonce (bytes 2 (length text)) (ct ++ tag)
+
+  after-nonce : drop 12 card ≡ bytes 2 (length text) ++ (ct ++ tag)
+  after-nonce = ap (drop 12) at-nonce ∙ drop-at nonce (bytes 2 (length text) ++ (ct ++ tag)) 12 ln
+
+  after-head : drop 14 card ≡ ct ++ tag
+  unfolding cardOf
+  after-head =
+      ap (drop 14) (append-assoc (nonce ++ bytes 2 (length text)) ct tag)
+      ∙ drop-at (nonce ++ bytes 2 (length text)) (ct ++ tag) 14 (length-append nonce (bytes 2 (length text)) ∙ ap₂ _+_ ln (length-bytes 2 (length text)))
+
+  length-card : length card ≡ length text + 30
+  length-card =
+      ap length at-nonce ∙ length-append nonce (bytes 2 (length text) ++ (ct ++ tag))
+      ∙ omega (arith, ln, length-append (bytes 2 (length text)) (ct ++ tag), length-bytes 2 (length text), length-append ct tag, length-ct, length-tag)
+
+  says : lengthIn card ≡ length text
+  unfolding lengthIn
+  says =
+      ap (λ (l : List ℕ). number (take 2 l)) after-nonce
+      ∙ ap number (take-at (bytes 2 (length text)) (ct ++ tag) 2 (length-bytes 2 (length text))) ∙ number-bytes 2 (length text) small
+    where
+      small : length text < 65536
+      small = omega arith
+
+  nonce-in : nonceIn card ≡ nonce
+  nonce-in = ap (take 12) at-nonce ∙ take-at nonce (bytes 2 (length text) ++ (ct ++ tag)) 12 ln
+
+  ciphertext-in : ciphertextIn card ≡ ct
+  ciphertext-in = ap₂ take says after-head ∙ take-at ct tag (length text) length-ct
+
+  tag-in : tagIn card ≡ tag
+  unfolding cardOf
+  tag-in =
+      ap (λ (n : ℕ). drop (14 + n) card) says
+      ∙ drop-at (nonce ++ bytes 2 (length text) ++ ct) tag (14 + length text)
+      (length-append (nonce ++ bytes 2 (length text)) ct ∙ ap₂ _+_ (length-append nonce (bytes 2 (length text)) ∙ ap₂ _+_ ln (length-bytes 2 (length text))) length-ct)
+
+  module _ (room : List ℕ) (fits : length text ≤ length room) where
+    clear : Clear (openRows (length key) (length ad) (length card) (lengthIn card) (length room))
+    clear =
+        let f : lengthIn card ≤ length room = omega (arith, says) in
+        let l : lengthIn card + 30 ≤ length card = omega (arith, says, length-card) in
+        let m : length card ≤ lengthIn card + 30 = omega (arith, says, length-card) in
+        (ap not (eq-eqb _ _ lk), (le-ltb _ _ la, (le-ltb _ _ f, (le-ltb _ _ l, (le-ltb _ _ m, tt)))))
+
+    opened : opening key ad card room ≡ answered 0 (over text room)
+    unfolding opening
+    opened =
+        let e : hyena.sealing key nonce ad text text (replicate 16 0)
+        ≡ answered 0 (record { room = over ct text; tag = tag }) = sealed key nonce ad text lk ln la lt text (omega arith) in
+        let o : hyena.opening key nonce ad (take (length text) (over ct text)) tag room ≡ answered 0 (over text room) =
+        ap (λ (a : Answer hyena.Sealed). hyena.opening key nonce ad (take (length text) (a .left .room)) (a .left .tag) room) (sym e)
+        ∙ opening-sealing key nonce ad text text (replicate 16 0) room fits (ap (λ (a : Answer hyena.Sealed). a .number) e) in
+        let t : take (length text) (over ct text) ≡ ct = ap (λ (n : ℕ). take n (over ct text)) (sym length-ct) ∙ take-over ct text in
+        refuse-clear room _ (openRows (length key) (length ad) (length card) (lengthIn card) (length room)) clear
+        ∙ rw (nonce-in, ciphertext-in, tag-in) (ap (λ (c : List ℕ). hyena.opening key nonce ad c tag room) (sym t) ∙ o)
+
+-- whatever sealing did not refuse, in room for the text
+pub opening-sealed : (key nonce ad text room room′ : List ℕ) → length text ≤ length room′ → sealing key nonce ad text room .number ≡ 0
+    → opening key ad (cardOf key nonce ad text) room′ ≡ answered 0 (over text room′)
+unfolding sealing
+opening-sealed key nonce ad text room room′ fits e =
+    let c = answer-done _ _ (sealRows (length key) (length nonce) (length ad) (length text) (length room)) tt e .0 in
+    opened key nonce ad text (eqb-true _ _ (not-false _ (c .0))) (eqb-true _ _ (not-false _ (c .1 .0))) (ltb-false _ _ (c .1 .1 .0)) (ltb-false _ _ (c .1 .1 .1 .0)) room′ fits
