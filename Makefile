@@ -1,18 +1,30 @@
-# `make` proves and builds the archive and the Rust crate over it; `make install` puts header, archive and a pkg-config
-# file under PREFIX (and DESTDIR before it, for packages). `make check` is the whole gate, `make bench` the benchmark.
+# `make` proves and builds the archive and the Rust crate over it, `make tool` the office's tool; `make install` puts header,
+# archive and a pkg-config file under PREFIX (and DESTDIR before it, for packages), `make install-tool` the tool and its man
+# page. `make check` is the whole gate, `make bench` the benchmark.
 
 PREFIX ?= /usr/local
 includedir = $(PREFIX)/include
 libdir = $(PREFIX)/lib
+bindir = $(PREFIX)/bin
+mandir = $(PREFIX)/share/man
 version := $(shell sed -n 's/^version = "\(.*\)"$$/\1/p' host/Cargo.toml)
 archive = target/staticlib/libvespruldo.a
+tool = target/bin/cards
+sources = crates.txt $(shell find crates -type f)
 
 all: archive crate
 
 archive: $(archive)
 
-$(archive): crates.txt $(shell find crates -type f)
+$(archive): $(sources)
 	@log=$$(rt staticlib vespruldo 2>&1) || { echo "$$log"; exit 1; }; echo "$$log" | tail -n 1
+
+tool: $(tool)
+
+# What was proved and has not changed is not proved again, and the program not linked anew: so its time is set here.
+$(tool): $(sources)
+	@log=$$(rt check cards 2>&1) || { echo "$$log"; exit 1; }; echo "$$log" | tail -n 1
+	@touch $(tool)
 
 crate: $(archive)
 	. tools/x86-64.sh && cd host && x86_cargo build --release --locked --offline -p vespruldo
@@ -24,9 +36,14 @@ install: $(archive)
 	sed -e 's|@includedir@|$(includedir)|' -e 's|@libdir@|$(libdir)|' -e 's|@version@|$(version)|' vespruldo.pc.in \
 		>'$(DESTDIR)$(libdir)/pkgconfig/vespruldo.pc'
 
+install-tool: $(tool)
+	install -d '$(DESTDIR)$(bindir)' '$(DESTDIR)$(mandir)/man1'
+	install -m 755 $(tool) '$(DESTDIR)$(bindir)'
+	install -m 644 docs/cards.1 '$(DESTDIR)$(mandir)/man1'
+
 uninstall:
 	rm -f '$(DESTDIR)$(includedir)/vespruldo.h' '$(DESTDIR)$(libdir)/libvespruldo.a' \
-		'$(DESTDIR)$(libdir)/pkgconfig/vespruldo.pc'
+		'$(DESTDIR)$(libdir)/pkgconfig/vespruldo.pc' '$(DESTDIR)$(bindir)/cards' '$(DESTDIR)$(mandir)/man1/cards.1'
 
 check:
 	.ci/run
@@ -35,4 +52,4 @@ bench: $(archive)
 	tools/setup
 	bench/run
 
-.PHONY: all archive crate install uninstall check bench
+.PHONY: all archive tool crate install install-tool uninstall check bench

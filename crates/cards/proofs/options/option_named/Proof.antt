@@ -1,0 +1,45 @@
+use Prim.Native.Nat.{_-_, _≤_}
+use borrow.Author.Needs.{needs}
+use Rattle.cards.proofs.options.option_named.Statement.{statement}
+use Rattle.cards.proofs.options.option_named.Tie as tie
+
+abbrev Inv-loop : tie.InvT-loop
+Inv-loop w option₀ option = option ≤ 16
+
+abbrev μ-loop : tie.MeasureT-loop
+μ-loop w option₀ option = 16 - option
+
+loop-holds : tie.Need-loop-holds Inv-loop μ-loop
+loop-holds c = search needs
+
+is-name-requires : tie.Need-is-name-requires Inv-loop μ-loop
+is-name-requires c κs = search needs
+
+returns : tie.Need-returns Inv-loop μ-loop
+returns c = search needs
+
+add-option : tie.Need-add-option Inv-loop μ-loop
+add-option c = search needs
+
+loop-less : tie.Need-loop-less Inv-loop μ-loop
+loop-less c = search needs
+
+loop-again : tie.Need-loop-again Inv-loop μ-loop
+loop-again c = search needs
+
+returns-2 : tie.Need-returns-2 Inv-loop μ-loop
+returns-2 c = search needs
+
+pub option-named-spec : {M : Type 1} → statement M
+option-named-spec =
+    tie.close
+    (tie.spec
+    Inv-loop
+    μ-loop
+    loop-holds
+    is-name-requires
+    returns
+    add-option
+    loop-less
+    loop-again
+    returns-2)

@@ -1,0 +1,222 @@
+// The drawer file: its state is replaced before the number that it gave is used, and while that is under way a file
+// beside it keeps every other `cards` from drawing.
+use crate::first;
+use crate::inputs;
+use crate::options;
+use crate::options::Options;
+use crate::outputs;
+use crate::put;
+use crate::refusal;
+use crate::refusal::Refusal;
+use drawer::Drawer;
+use office::kept::Kept;
+
+// What was refused, or the drawer, and the file beside it, open for its next state.
+pub(crate) struct Held {
+    pub refusal: Refusal,
+    pub drawer: Drawer,
+    pub fd: i32,
+}
+
+// Makes a drawer file.
+pub(crate) fn start(o: Options) -> Refusal {
+    let reader = (inputs::number(o, options::READER).value % 4294967296) as u32;
+    let d = drawer::start(reader, inputs::number(o, options::COUNT).value);
+    let file = office::kept::keep(d);
+    let r = outputs::claim_name(o, options::DRAWER);
+    if r.number != 0 {
+        return r;
+    }
+    outputs::write_file(o, options::DRAWER, &file)
+}
+
+// Draws a number and writes it.
+pub(crate) fn draw(o: Options) -> Refusal {
+    let h = take(o);
+    let bad = h.refusal;
+    if bad.number != 0 {
+        return bad;
+    }
+    let drawn = drawer::draw(h.drawer);
+    let number = drawn.bytes;
+    let next = drawn.next;
+    spend(
+        options::printed(o),
+        h,
+        next,
+        spent(o, drawn.number),
+        &number,
+    )
+}
+
+// What the number of a draw refuses.
+pub(crate) fn spent(o: Options, number: u32) -> Refusal {
+    if number == 0 {
+        return refusal::none();
+    }
+    refusal::about(o, options::DRAWER, number, refusal::NO_REASON)
+}
+
+// Keeps the next state, and then writes the output. Where something was refused, the drawer stays as it was.
+pub(crate) fn spend(o: Options, h: Held, next: Drawer, bad: Refusal, bytes: &[u8]) -> Refusal {
+    if bad.number != 0 {
+        let_go(o, h.fd);
+        return bad;
+    }
+    let taken = outputs::claim(o);
+    if taken.number != 0 {
+        let_go(o, h.fd);
+        return taken;
+    }
+    let kept = keep(o, h.fd, next);
+    if kept.number != 0 {
+        outputs::release(o);
+        return kept;
+    }
+    outputs::write(o, bytes)
+}
+
+// Takes the drawer: nobody else can until it is kept or let go.
+pub(crate) fn take(o: Options) -> Held {
+    let mut name = io::buffer();
+    let n = options::word(options::place(o, options::DRAWER), &mut name);
+    if is_link(&name[..n]) {
+        return not_held(refusal::about(o, options::DRAWER, refusal::DAMAGED, refusal::LINK));
+    }
+    let mut beside = [0u8; 8192];
+    let b = put_beside(&mut beside, &name[..n]);
+    let fd = os::create(first(&beside, b));
+    if fd < 0 {
+        return not_held(not_locked(o));
+    }
+    let h = opened(o, fd);
+    let bad = h.refusal;
+    if bad.number != 0 {
+        let_go(o, fd);
+    }
+    h
+}
+
+fn not_held(r: Refusal) -> Held {
+    Held {
+        refusal: r,
+        drawer: drawer::start(0, 0),
+        fd: 0,
+    }
+}
+
+fn not_locked(o: Options) -> Refusal {
+    let e = os::errno();
+    if e == libc::EEXIST {
+        return refusal::about(o, options::DRAWER, refusal::IN_USE, refusal::BESIDE);
+    }
+    if e == libc::ENOENT || e == libc::ENOTDIR {
+        return refusal::by_system(o, options::DRAWER, refusal::NOT_READ);
+    }
+    refusal::by_system(o, options::DRAWER, refusal::NOT_WRITTEN)
+}
+
+fn opened(o: Options, fd: i32) -> Held {
+    let mut name = io::buffer();
+    let n = options::word(options::place(o, options::DRAWER), &mut name);
+    let from = os::open_update(&name[..n]);
+    if from < 0 {
+        return not_held(refusal::by_system(o, options::DRAWER, refusal::NOT_READ));
+    }
+    let k = kept_in(from);
+    libc::close(from);
+    if !k.good {
+        return not_held(refusal::about(o, options::DRAWER, refusal::DAMAGED, refusal::NO_REASON));
+    }
+    let d = k.drawer;
+    Held {
+        refusal: refusal::none(),
+        drawer: d,
+        fd: fd,
+    }
+}
+
+// The drawer in an open file. What has no places, as a pipe, is none, and reading it could take forever.
+pub(crate) fn kept_in(fd: i32) -> Kept {
+    let mut file = [0u8; 45];
+    if libc::lseek(fd, 0, libc::SEEK_END) < 0 {
+        return office::kept::recall(b"");
+    }
+    let n = io::count(libc::pread(fd, &mut file, 0), &file);
+    office::kept::recall(first(&file, n))
+}
+
+// The name of the file that keeps the others out.
+pub(crate) fn put_beside(room: &mut [u8], name: &[u8]) -> usize {
+    let at = put(room, 0, name);
+    put(room, at, b".next")
+}
+
+// Puts the next state in the drawer's place and waits until that is on the disk.
+fn keep(o: Options, fd: i32, next: Drawer) -> Refusal {
+    let mut name = io::buffer();
+    let n = options::word(options::place(o, options::DRAWER), &mut name);
+    let mut beside = [0u8; 8192];
+    let b = put_beside(&mut beside, &name[..n]);
+    let file = office::kept::keep(next);
+    let r = outputs::filled(o, options::DRAWER, fd, &file);
+    if r.number != 0 {
+        let_go(o, fd);
+        return r;
+    }
+    if os::rename(first(&beside, b), &name[..n]) != 0 {
+        let s = refusal::by_system(o, options::DRAWER, refusal::NOT_WRITTEN);
+        let_go(o, fd);
+        return s;
+    }
+    libc::close(fd);
+    renamed(o, &name[..n])
+}
+
+// Waits until the renaming is on the disk. A file system that has no such call says EINVAL.
+fn renamed(o: Options, name: &[u8]) -> Refusal {
+    let mut path = io::buffer();
+    let n = put_folder(&mut path, name);
+    let fd = os::open_read(first(&path, n));
+    if fd < 0 {
+        return refusal::by_system(o, options::DRAWER, refusal::NOT_WRITTEN);
+    }
+    let done = libc::fsync(fd);
+    let e = os::errno();
+    libc::close(fd);
+    if done == 0 || e == libc::EINVAL {
+        return refusal::none();
+    }
+    refusal::by_system(o, options::DRAWER, refusal::NOT_WRITTEN)
+}
+
+// Puts the folder that a name lies in into room.
+fn put_folder(room: &mut [u8], name: &[u8]) -> usize {
+    let mut i = name.len();
+    while i > 0 {
+        if name[i - 1] == b'/' {
+            return put(room, 0, &name[..i]);
+        }
+        i -= 1;
+    }
+    put(room, 0, b".")
+}
+
+fn let_go(o: Options, fd: i32) {
+    libc::close(fd);
+    let mut name = io::buffer();
+    let n = options::word(options::place(o, options::DRAWER), &mut name);
+    let mut beside = [0u8; 8192];
+    let b = put_beside(&mut beside, &name[..n]);
+    os::unlink(first(&beside, b));
+}
+
+// Whether the name is that of a symbolic link: a new state would take the link's place and leave the old one where it
+// leads, to be drawn from again.
+fn is_link(name: &[u8]) -> bool {
+    let mut path = io::buffer();
+    put(&mut path, 0, name);
+    path[4095] = 0;
+    let mut leads = [0u8; 1];
+    libc::readlink(&path, &mut leads) >= 0
+}
