@@ -21,6 +21,7 @@ pub mod lines;
 pub mod lioness;
 pub mod random;
 mod square;
+pub mod tool;
 
 /// The most bytes in a text of HyENA, ChaCha20 or BLAKE2b (document 01, Sizes).
 pub const LONGEST_TEXT: usize = 1_048_576;
