@@ -3,7 +3,7 @@
 mod common;
 
 use common::pairs::blake2b as digest;
-use common::{number, up_to, LONGEST_TEXT};
+use common::{number, times, up_to, LONGEST_TEXT};
 use second::cases::blake::{self_test, PUBLISHED, SELF_TEST};
 use second::random::Random;
 
@@ -38,7 +38,7 @@ fn all_keys_and_rooms_agree_and_nothing_else_changes() {
 
 fn compare_random_texts(seed: u64) {
     let mut random = Random::new(seed);
-    for _ in 0..30_000 {
+    for _ in 0..times(30_000) {
         let key_len = up_to(&mut random, 64);
         let text_len = up_to(&mut random, 700);
         let room_len = 1 + up_to(&mut random, 63);

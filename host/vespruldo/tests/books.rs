@@ -5,7 +5,7 @@ mod common;
 use std::collections::BTreeSet;
 
 use common::books::{book, compare, raw_find, with_count, Books};
-use common::{up_to, with_flip, Guarded};
+use common::{times, up_to, with_flip, Guarded};
 use second::books::Found;
 use second::random::Random;
 
@@ -97,7 +97,7 @@ fn near(lists: [&[u16]; 2]) -> Vec<u16> {
 #[test]
 fn random_books_agree() {
     let mut random = Random::new(90);
-    for _ in 0..600 {
+    for _ in 0..times(600) {
         // Among few classes, so that both books have the same ones, or among
         // all.
         let end = [20, 400, 1 << 16][up_to(&mut random, 2)];

@@ -3,7 +3,7 @@
 mod common;
 
 use common::pairs::chacha20 as stream_from;
-use common::{up_to, LONGEST_TEXT};
+use common::{times, up_to, LONGEST_TEXT};
 use second::cases::chacha::PUBLISHED;
 use second::random::Random;
 
@@ -54,7 +54,7 @@ fn all_lengths_agree_and_nothing_else_changes() {
 
 fn compare_random_texts(seed: u64) {
     let mut random = Random::new(seed);
-    for _ in 0..30_000 {
+    for _ in 0..times(30_000) {
         let text_len = up_to(&mut random, 700);
         stream_from(random.next_u64() as u32).compare(&mut random, [32, 12], [text_len]);
     }
@@ -76,7 +76,7 @@ fn more_random_texts_agree() {
 #[test]
 fn starts_at_the_counters_end_agree() {
     let mut random = Random::new(23);
-    for _ in 0..6000 {
+    for _ in 0..times(6000) {
         let text_len = 1 + up_to(&mut random, 699);
         let last = last_start(text_len.div_ceil(64));
         stream_from(last).compare(&mut random, [32, 12], [text_len]);
@@ -174,7 +174,7 @@ fn another_start_changes_the_result() {
 #[test]
 fn cut_after_whole_blocks_the_stream_is_the_same() {
     let mut random = Random::new(28);
-    for _ in 0..300 {
+    for _ in 0..times(300) {
         let [key, nonce] = [random.bytes(32), random.bytes(12)];
         let text_len = up_to(&mut random, 700);
         let text = random.bytes(text_len);

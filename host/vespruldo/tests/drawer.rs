@@ -4,7 +4,7 @@ mod common;
 
 use std::collections::BTreeSet;
 
-use common::{number, up_to};
+use common::{number, times, up_to};
 use second::drawer;
 use second::random::Random;
 // The archive's functions themselves: the safe ones show neither the bytes that
@@ -130,7 +130,7 @@ fn every_border_of_the_numbers_agrees() {
 #[test]
 fn random_drawers_agree() {
     let mut random = Random::new(80);
-    for _ in 0..200_000 {
+    for _ in 0..times(200_000) {
         compare_both(random.next_u64() as u32, random.next_u64());
     }
 }

@@ -3,7 +3,7 @@
 mod common;
 
 use common::pairs::{gift_decipher as decipher, gift_encipher as encipher};
-use common::with_flip;
+use common::{times, with_flip};
 use second::cases::gift::{extremes, PUBLISHED};
 use second::lines::{field, Order};
 use second::random::Random;
@@ -38,7 +38,7 @@ fn compare_blocks(key: &[u8], block: &[u8]) {
 
 fn compare_random_blocks(seed: u64) {
     let mut random = Random::new(seed);
-    for _ in 0..12_000 {
+    for _ in 0..times(12_000) {
         compare_blocks(&random.bytes(16), &random.bytes(16));
     }
 }

@@ -3,7 +3,7 @@
 mod common;
 
 use common::pairs::{lioness_decipher as decipher, lioness_encipher as encipher};
-use common::{number, up_to, LONGEST_BLOCK};
+use common::{number, times, up_to, LONGEST_BLOCK};
 use second::random::Random;
 
 /// Lengths at the borders of what is allowed, and of ChaCha20's and BLAKE2b's
@@ -44,7 +44,7 @@ fn compare_blocks(random: &mut Random, block_len: usize) {
 
 fn compare_random_blocks(seed: u64) {
     let mut random = Random::new(seed);
-    for _ in 0..6000 {
+    for _ in 0..times(6000) {
         let block_len = 33 + up_to(&mut random, 667);
         compare_blocks(&mut random, block_len);
     }

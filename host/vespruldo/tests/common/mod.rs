@@ -6,6 +6,8 @@
 pub mod books;
 pub mod pairs;
 
+use std::env;
+
 use second::random::Random;
 use vespruldo::Refusal;
 
@@ -18,6 +20,22 @@ pub const LONGEST_BLOCK: usize = 1_048_608;
 /// to an outcome of its own or panic, so nothing is lost.
 pub fn number<T>(outcome: Result<T, Refusal>) -> u32 {
     outcome.map_or_else(Refusal::number, |_| 0)
+}
+
+/// Whether an emulator runs the tests: tools/host-tests names it in this
+/// variable, which is empty on x86-64 itself.
+pub fn emulated() -> bool {
+    env::var_os("VESPRULDO_RUNNER").is_some_and(|runner| !runner.is_empty())
+}
+
+/// As many random cases as asked for, or a twentieth of them under an emulator,
+/// which is some twenty times slower.
+pub fn times(cases: usize) -> usize {
+    if emulated() {
+        cases.div_ceil(20)
+    } else {
+        cases
+    }
 }
 
 /// A random-looking number from 0 to `most`.
