@@ -1,14 +1,13 @@
 -- A card that was sealed opens: its text comes back.
 -- Assumes nothing.
-use mathlib.Core.Path.{_≡_, refl, sym, ap, ap₂, _∙_}
+use mathlib.Core.Path.{_≡_, sym, ap, ap₂, _∙_}
 use mathlib.Core.Bool.{false, not}
-use mathlib.Core.List.{List, [], _++_, append-nil, append-assoc}
+use mathlib.Core.List.{List, _++_, append-assoc}
 use Prim.Native.Nat.{ℕ, _+_, _<_, _≤_}
 use native.Mathlib.Omega.{arith}
 use lib.ListN.{length, take, drop, replicate, length-append}
 use lib.Seq.{take-at, drop-at}
 use borrow.Author.Tests.{eqb-true, not-false, ltb-false, eq-eqb, le-ltb}
-use Rattle.words.specs.Block.{part}
 use Rattle.words.specs.Bytes.{number, bytes, over}
 use Rattle.words.specs.Refuse.{Answer, answered}
 use Rattle.words.proofs.Bytes.{length-bytes, number-bytes}

@@ -2,7 +2,7 @@
 -- Assumes nothing.
 use mathlib.Core.Path.{_≡_, refl, sym, ap, ap₂, _∙_}
 use mathlib.Core.Bool.{true, false}
-use mathlib.Core.List.{List, [], _∷_}
+use mathlib.Core.List.{List, [], _∷_, _++_}
 use Prim.Native.Nat.{ℕ, suc, _+_, _*_, _/_, _%_, _≤_, _<_}
 use native.Mathlib.Nat.{zero-add, add-zero}
 use native.Mathlib.Numerals.{add-one}
@@ -71,6 +71,12 @@ read-turn text i r r′ l h e inv = rw (add-one, e) (ap (λ (t : List ℕ). fed 
 pub read-end : (text : List ℕ) (i : ℕ) (r l : Reading) → length text ≤ i → fed (drop i text) r ≡ l → r ≡ l
 unfolding fed
 read-end text i r l h inv = ap (λ (t : List ℕ). fed t r) (sym (drop-of-length-le text {i = i} h)) ∙ inv
+
+-- cut anywhere, the pieces one after another are read as the whole
+pub fed-cut : (s t : List ℕ) (r : Reading) → fed (s ++ t) r ≡ fed t (fed s r)
+unfolding fed
+fed-cut [] t r = refl
+fed-cut (b ∷ s) t r = fed-cut s t (feed b r)
 
 -- ---- what is written is read back
 

@@ -1,19 +1,19 @@
 -- The drawer file: what the code makes of it, that what is kept is read back, and that nothing else is taken.
 -- Assumes nothing.
 use mathlib.Core.Path.{_≡_, refl, sym, ap, ap₂, _∙_}
-use mathlib.Core.Bool.{Bool, true, false, cond, _&&_, true≢false}
+use mathlib.Core.Bool.{Bool, true, false, _&&_, true≢false}
 use mathlib.Core.List.{List, [], _∷_, _++_}
-use Prim.Native.Nat.{ℕ, zero, suc, _+_, _-_, _%_, _^_, _≤_, _<_}
-use native.Mathlib.Nat.{mod-eq-of-lt, suc-inj, zero-add}
+use Prim.Native.Nat.{ℕ, suc, _+_, _-_, _%_, _^_, _≤_, _<_}
+use native.Mathlib.Nat.{mod-eq-of-lt, zero-add}
 use native.Mathlib.Numerals.{add-one}
 use native.Mathlib.Omega.{arith}
-use lib.Dec.{T, eqb, lit≤, lit<}
-use lib.ListN.{length, take, drop, getD, replicate, length-append, drop-of-length-le}
-use lib.Seq.{drop-cons, take-all, take-append-seam, drop-at, take-at}
+use lib.Dec.{eqb, lit≤}
+use lib.ListN.{length, drop, getD, replicate, length-append, drop-of-length-le}
+use lib.Seq.{drop-cons, take-all}
 use borrow.Author.Tests.{eqb-true, eq-eqb, ne-eqb}
 use Rattle.words.specs.declared.Block.{Block}
 use Rattle.words.specs.Block.{halves, part, loaded}
-use Rattle.words.specs.Bytes.{Bytes, number, bytes, plusAt}
+use Rattle.words.specs.Bytes.{Bytes, bytes, plusAt}
 use Rattle.words.specs.Refuse.{Answer, answered}
 use Rattle.words.proofs.Bytes.{length-bytes, number-bytes}
 use Rattle.words.proofs.Plus.{plus-zeros, plusAt-first, plusAt-append}
@@ -23,7 +23,6 @@ use Rattle.blake.specs.Entry.{digesting}
 use Rattle.blake.proofs.Hashing.{digesting-done, length-digest}
 use Rattle.drawer.specs.declared.Drawer.{Drawer}
 use Rattle.drawer.specs.Drawer.{started, nonce}
-use Rattle.office.specs.declared.kept.Kept.{Kept}
 use Rattle.office.specs.Kept.{kept, drawerIn, same, reading}
 
 -- ---- whether two lists are the same

@@ -6,7 +6,7 @@ use mathlib.Core.List.{List, [], _∷_, _++_}
 use lib.Dec.{eqb, ltb}
 use lib.ListN.{length, set}
 use Rattle.words.specs.Bytes.{over}
-use Rattle.words.specs.Refuse.{Row, Answer, answer}
+use Rattle.words.specs.Refuse.{Answer, answer}
 use Rattle.office.specs.declared.hex.Hex.{Hex}
 
 -- ---- writing

@@ -1,7 +1,6 @@
 use Prim.Native.Nat.{ℕ}
 use mathlib.Core.Path.{sym}
 use lib.ListN.{length-replicate}
-use borrow.Author.Needs.{needs}
 use Rattle.cards.proofs.rooms.text.Statement.{statement}
 use Rattle.cards.proofs.rooms.text.Tie as tie
 

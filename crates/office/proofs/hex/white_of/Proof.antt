@@ -1,6 +1,5 @@
 use lib.Dec.{lit≤}
 use borrow.Author.Tests.{eq-eqb, ne-eqb}
-use borrow.Author.Needs.{needs}
 use Rattle.office.proofs.hex.white_of.Statement.{statement}
 use Rattle.office.proofs.hex.white_of.Tie as tie
 
