@@ -1,103 +1,126 @@
--- The demands, stated of what the entry points answer, with the byte lists that a caller holds. The short forms are the same
--- with their own associated data.
--- Assumes nothing.
-use mathlib.Core.Path.{_≡_, sym, ap, _∙_}
-use mathlib.Core.Bool.{true, false, not}
+-- The demands hold over every block cipher that has an inverse, so over GIFT-128.
+use mathlib.Core.Path.{_≡_, refl, sym, ap, ap₂, _∙_}
+use mathlib.Core.Bool.{Bool, true, false, not}
 use mathlib.Core.List.{List}
 use Prim.Native.Nat.{ℕ, _≤_}
 use native.Mathlib.Omega.{arith}
 use borrow.Author.Tests.{eqb-true, not-false, eq-eqb, ne-eqb, le-ltb}
 use lib.ListN.{length, take, replicate}
 use Rattle.words.specs.Bytes.{Bytes, number, bytes, over}
-use Rattle.words.specs.Refuse.{Answer, answered}
 use Rattle.words.proofs.Bytes.{length-bytes, bytes-bytes, number-bytes, number-inj}
 use Rattle.words.proofs.Over.{take-over}
-use Rattle.words.proofs.Refusals.{Clear, refuse-done, answer-done}
+use Rattle.answers.specs.Answers.{Answer, answered}
+use Rattle.answers.proofs.Answers.{Clear, clear-number, judged-clear, refuse-clear, refuse-done, answer-done}
 use Rattle.gift.specs.Gift.{decipher}
 use Rattle.gift.proofs.Inverse.{cipher-lt, decipher-encipher}
-use Rattle.hyena.specs.Demands.{Inverted, Alike}
-use Rattle.hyena.specs.Hyena.{tag}
-use Rattle.hyena.specs.Entry.{gift, refusals, ciphertextOf, tagOf, Sealed, sealing, textOf, recomputed, wrongTag, opening}
-use Rattle.hyena.proofs.Trip.{length-outputs, round-trip}
-use Rattle.hyena.proofs.Bounds.{tag-lt}
-use Rattle.hyena.proofs.Differ.{same-tag}
-use Rattle.hyena.proofs.Entry.{tag-length, nonce-length, opening-by}
+use Rattle.mode.specs.Demands.{Inverted, Alike}
+use Rattle.mode.specs.Hyena.{tag}
+use Rattle.mode.proofs.Trip.{length-outputs, round-trip}
+use Rattle.mode.proofs.Bounds.{tag-lt}
+use Rattle.mode.proofs.Differ.{same-tag}
+use Rattle.hyena.specs.Demands.{withText, Demands}
+use Rattle.hyena.specs.Entry.{Inputs, refusals, outputOf, tagOf, Sealed, sealing, wrongTag, opening, gift}
+use Rattle.hyena.proofs.Entry.{allowed, opening-by}
 
--- GIFT-128 is a block function with an inverse
-inverted : (key : List ℕ) → Inverted (gift key) (decipher (number key))
-inverted key = record { block = cipher-lt false (number key); undone = decipher-encipher (number key) }
+-- another text as long, a tag and room for the text are not refused either
+reclear : (i : Inputs) (tag room c t room′ : List ℕ) → Clear (refusals i tag room) → length c ≡ length (i .text) → length t ≡ 16 → length (i .text) ≤ length room′
+    → Clear (refusals (withText i c) t room′)
+reclear i tag room c t room′ (key, (nonce, (ad, (text, more)))) lc lt fits =
+    (key, (nonce, (ad, (rw lc text, (ap not (eq-eqb (length t) 16 lt), (le-ltb (length room′) (length c) (omega arith), tt))))))
 
--- ---- opening what sealing gave
+module _ (cipher : List ℕ → ℕ → ℕ) where
+  -- ---- the verdict
 
-sealing-done : (key nonce ad text tag room : List ℕ) → sealing key nonce ad text room tag .number ≡ 0
-    → Clear (refusals key nonce ad text tag room) × (sealing key nonce ad text room tag .left ≡ record { room = over (ciphertextOf key nonce ad text) room; tag = tagOf key nonce ad text })
-unfolding sealing
-sealing-done key nonce ad text tag room e =
-    let d = answer-done _ _ (refusals key nonce ad text tag room) tt e in
-    (d .0, ap (λ (a : Answer Sealed). a .left) (d .1))
+  module _ (i : Inputs) (tag room : List ℕ) (h : Bytes tag) where
+    -- tags of 16 bytes are compared as numbers
+    same-number : Clear (refusals i tag room) → number tag ≡ number (tagOf cipher true i) → tag ≡ tagOf cipher true i
+    same-number c e = number-inj tag (tagOf cipher true i) h (bytes-bytes 16 _) (allowed i tag room c .tag-16 ∙ sym (length-bytes 16 _)) e
 
--- a ciphertext as long, a tag and room for the text are not refused either
-reclear : (key nonce ad text tag room : List ℕ) → Clear (refusals key nonce ad text tag room) → (c t room′ : List ℕ) → length c ≡ length text → length t ≡ 16
-    → length text ≤ length room′ → Clear (refusals key nonce ad c t room′)
-reclear key nonce ad text tag room k c t room′ lc lt fits =
-    (k .0, (k .1 .0, (k .1 .1 .0, (rw lc (k .1 .1 .1 .0), (ap not (eq-eqb (length t) 16 lt), (le-ltb (length room′) (length c) (omega arith), tt))))))
+    accepted : opening cipher i tag room .number ≡ 0 → Clear (refusals i tag room) × (tag ≡ tagOf cipher true i)
+    unfolding opening
+    accepted e =
+        let p = refuse-done room _ (refusals i tag room) tt e in
+        let q = refuse-done _ _ (wrongTag cipher i tag) tt (p .1) in
+        (p .0, same-number (p .0) (eqb-true _ _ (not-false _ (q .0 .0))))
 
-module _ (key nonce ad text tag room : List ℕ) (h : Bytes tag) where
-  -- tags of 16 bytes are compared as numbers
-  same-number : Clear (refusals key nonce ad text tag room) → number tag ≡ number (recomputed key nonce ad text) → tag ≡ recomputed key nonce ad text
-  same-number c e =
-      number-inj tag (recomputed key nonce ad text) h (bytes-bytes 16 _) (tag-length key nonce ad text tag room c ∙ sym (length-bytes 16 _)) e
+    right : Clear (refusals i tag room) → tag ≡ tagOf cipher true i → opening cipher i tag room ≡ answered 0 (over (outputOf cipher true i) room)
+    right c e = opening-by cipher i tag room c true (eq-eqb (number tag) (number (tagOf cipher true i)) (ap number e))
 
-  -- opening accepts exactly when the lengths are allowed and the tag is the recomputed one
-  pub accepts : opening key nonce ad text tag room .number ≡ 0 → Clear (refusals key nonce ad text tag room) × (tag ≡ recomputed key nonce ad text)
-  unfolding opening
-  accepts e =
-      let p = refuse-done room _ (refusals key nonce ad text tag room) tt e in
-      let q = refuse-done _ _ (wrongTag key nonce ad text tag) tt (p .1) in
-      (p .0, same-number (p .0) (eqb-true _ _ (not-false _ (q .0 .0))))
+    wrong : Clear (refusals i tag room) → (tag ≡ tagOf cipher true i → ⊥) → opening cipher i tag room ≡ answered 7 (over (replicate (length (i .text)) 0) room)
+    wrong c ne = opening-by cipher i tag room c false (ne-eqb (number tag) (number (tagOf cipher true i)) (λ e. ne (same-number c e)))
 
-  -- then the text comes out
-  pub accepted : Clear (refusals key nonce ad text tag room) → tag ≡ recomputed key nonce ad text
-      → opening key nonce ad text tag room ≡ answered 0 (over (textOf key nonce ad text) room)
-  accepted c e = opening-by key nonce ad text tag room c true (eq-eqb (number tag) (number (recomputed key nonce ad text)) (ap number e))
+  -- ---- there and back, either way
 
-  -- any other tag is refused with 7, and the bytes meant for the text are all zero
-  pub rejected : Clear (refusals key nonce ad text tag room) → (tag ≡ recomputed key nonce ad text → ⊥)
-      → opening key nonce ad text tag room ≡ answered 7 (over (replicate (length text) 0) room)
-  rejected c ne = opening-by key nonce ad text tag room c false (ne-eqb (number tag) (number (recomputed key nonce ad text)) (λ e. ne (same-number c e)))
+  module _ (i : Inputs) (way : Bool) where
+    there : Inputs
+    there = withText i (outputOf cipher way i)
 
--- what sealing wrote, as much of the room as the text has and the tag, is opened again: the text comes back
-pub opening-sealing : (key nonce ad text room tag room′ : List ℕ) → length text ≤ length room′ → sealing key nonce ad text room tag .number ≡ 0
-    → let s = sealing key nonce ad text room tag .left in
-    opening key nonce ad (take (length text) (s .room)) (s .tag) room′ ≡ answered 0 (over text room′)
-opening-sealing key nonce ad text room tag room′ fits e =
-    let E = gift key in
-    let c = ciphertextOf key nonce ad text in
-    let t = tagOf key nonce ad text in
-    let d = sealing-done key nonce ad text tag room e in
-    let lc : length c ≡ length text = length-outputs E nonce ad false text in
-    let lt : length t ≡ 16 = length-bytes 16 _ in
-    let ec : take (length text) (over c room) ≡ c = ap (λ (n : ℕ). take n (over c room)) (sym lc) ∙ take-over c room in
-    let et : t ≡ recomputed key nonce ad c = ap (bytes 16) (sym (round-trip E nonce ad text .1)) in
-    let k : Clear (refusals key nonce ad c t room′) = reclear key nonce ad text tag room (d .0) c t room′ lc lt fits in
-    ap (λ (s : Sealed). opening key nonce ad (take (length text) (s .room)) (s .tag) room′) (d .1)
-    ∙ ap (λ (l : List ℕ). opening key nonce ad l t room′) ec
-    ∙ accepted key nonce ad c t room′ (bytes-bytes 16 _) k et
-    ∙ ap (λ (l : List ℕ). answered 0 (over l room′)) (round-trip E nonce ad text .0)
+    comes-back : outputOf cipher (not way) there ≡ i .text
+    unfolding there
+    comes-back = round-trip (cipher (i .key)) way (i .nonce) (i .ad) (i .text) .0
 
--- ---- demand 3
+    same-tags : tagOf cipher (not way) there ≡ tagOf cipher way i
+    unfolding there
+    same-tags = ap (bytes 16) (round-trip (cipher (i .key)) way (i .nonce) (i .ad) (i .text) .1)
 
-module _ (key nonce ad c d : List ℕ) (hn : Bytes nonce) (ha : Bytes ad) (hc : Bytes c) (hd : Bytes d) (al : Alike c d) (ne : c ≡ d → ⊥) where
-  -- ciphertexts that are alike and differ are opened by different tags
-  pub tags-differ : length nonce ≡ 12 → recomputed key nonce ad c ≡ recomputed key nonce ad d → ⊥
-  tags-differ ln e =
-      let inv = inverted key in
-      ne (same-tag inv nonce ad c d hn ln ha hc hd al
-      (sym (number-bytes 16 _ (tag-lt inv true nonce ad c hn ln ha hc)) ∙ ap number e ∙ number-bytes 16 _ (tag-lt inv true nonce ad d hn ln ha hd)))
+    out-length : length (outputOf cipher way i) ≡ length (i .text)
+    out-length = length-outputs (cipher (i .key)) way (i .nonce) (i .ad) (i .text)
 
-  -- no tag opens both
-  pub no-tag-opens-both : (tag room room′ : List ℕ) → Bytes tag → opening key nonce ad c tag room .number ≡ 0 → opening key nonce ad d tag room′ .number ≡ 0 → ⊥
-  no-tag-opens-both tag room room′ ht p q =
-      let a = accepts key nonce ad c tag room ht p in
-      let b = accepts key nonce ad d tag room′ ht q in
-      tags-differ (nonce-length key nonce ad c tag room (a .0)) (sym (a .1) ∙ b .1)
+    -- what was written is found at the front of the room
+    front : (room : List ℕ) → take (length (i .text)) (over (outputOf cipher way i) room) ≡ outputOf cipher way i
+    front room = ap (λ (n : ℕ). take n (over (outputOf cipher way i) room)) (sym out-length) ∙ take-over (outputOf cipher way i) room
+
+  sealed-opens : (i : Inputs) (room tag room′ : List ℕ) → sealing cipher i room tag .number ≡ 0 → length (i .text) ≤ length room′
+      → let s = sealing cipher i room tag .left in opening cipher (withText i (take (length (i .text)) (s .room))) (s .tag) room′ ≡ answered 0 (over (i .text) room′)
+  unfolding sealing there
+  sealed-opens i room tag room′ e fits =
+      let d = answer-done _ _ (refusals i tag room) tt e in
+      let t = tagOf cipher false i in
+      let l : length t ≡ 16 = length-bytes 16 _ in
+      ap (λ (a : Answer Sealed). opening cipher (withText i (take (length (i .text)) (a .left .room))) (a .left .tag) room′) (d .1)
+      ∙ ap (λ (c : List ℕ). opening cipher (withText i c) t room′) (front i false room)
+      ∙ right (there i false) t room′ (bytes-bytes 16 _) (reclear i tag room (outputOf cipher false i) t room′ (d .0) (out-length i false) l fits) (sym (same-tags i false))
+      ∙ ap (λ (m : List ℕ). answered 0 (over m room′)) (comes-back i false)
+
+  opened-seals : (i : Inputs) (tag room room′ tag′ : List ℕ) → Bytes tag → opening cipher i tag room .number ≡ 0 → length (i .text) ≤ length room′ → length tag′ ≡ 16
+      → let t = take (length (i .text)) (opening cipher i tag room .left) in
+      sealing cipher (withText i t) room′ tag′ ≡ answered 0 (record { room = over (i .text) room′; tag = tag })
+  unfolding sealing there
+  opened-seals i tag room room′ tag′ h e fits lt =
+      let a = accepted i tag room h e in
+      let k = reclear i tag room (outputOf cipher true i) tag′ room′ (a .0) (out-length i true) lt fits in
+      ap (λ (z : Answer (List ℕ)). sealing cipher (withText i (take (length (i .text)) (z .left))) room′ tag′) (right i tag room h (a .0) (a .1))
+      ∙ ap (λ (m : List ℕ). sealing cipher (withText i m) room′ tag′) (front i true room)
+      ∙ refuse-clear _ _ (refusals (there i true) tag′ room′) k
+      ∙ ap₂ (λ (c t : List ℕ). answered 0 (record { room = over c room′; tag = t })) (comes-back i true) (same-tags i true ∙ sym (a .1))
+
+-- ---- all of it
+
+module _ (cipher inverse : List ℕ → ℕ → ℕ) (inv : (key : List ℕ) → Inverted (cipher key) (inverse key)) where
+  differ : (i : Inputs) (d : List ℕ) → Bytes (i .nonce) → length (i .nonce) ≡ 12 → Bytes (i .ad) → Bytes (i .text) → Bytes d → Alike (i .text) d
+      → (i .text ≡ d → ⊥) → tagOf cipher true i ≡ tagOf cipher true (withText i d) → ⊥
+  differ i d hn ln ha hc hd al ne e =
+      let v = inv (i .key) in
+      ne (same-tag v (i .nonce) (i .ad) (i .text) d hn ln ha hc hd al
+      (sym (number-bytes 16 _ (tag-lt v true (i .nonce) (i .ad) (i .text) hn ln ha hc)) ∙ ap number e ∙ number-bytes 16 _ (tag-lt v true (i .nonce) (i .ad) d hn ln ha hd)))
+
+  pub demands : Demands cipher
+  demands =
+      record {
+        opens-sealed = sealed-opens cipher;
+        seals-opened = opened-seals cipher;
+        accepts = λ i tag room h. (
+          λ e. let a = accepted cipher i tag room h e in (clear-number (refusals i tag room) (a .0), a .1),
+          λ p. ap (λ (a : Answer (List ℕ)). a .number) (right cipher i tag room h (judged-clear (refusals i tag room) refl tt (p .0)) (p .1)),
+        );
+        rejects = λ i tag room h z ne. wrong cipher i tag room h (judged-clear (refusals i tag room) refl tt z) ne;
+        tags-differ = differ;
+        no-tag-opens-both = λ i d hn ha hc hd al ne tag room room′ ht p q.
+            let a = accepted cipher i tag room ht p in
+            let b = accepted cipher (withText i d) tag room′ ht q in
+            differ i d hn (allowed i tag room (a .0) .nonce-12) ha hc hd al ne (sym (a .1) ∙ b .1);
+      }
+
+-- GIFT-128 is such a cipher
+pub gift-demands : Demands gift
+gift-demands = demands gift (λ key. decipher (number key)) (λ key. record { block = cipher-lt false (number key); undone = decipher-encipher (number key) })

@@ -1,30 +1,31 @@
 -- What a call leaves, from what its steps ensure.
--- Assumes nothing.
 use mathlib.Core.Path.{_≡_, sym, ap, ap₂, fun-ext, _∙_}
 use mathlib.Core.Bool.{Bool, true, false, cond}
 use mathlib.Core.List.{List}
 use Prim.Native.Nat.{ℕ, _^_, _≤_, _<_}
+use native.Mathlib.Omega.{arith}
 use borrow.Author.Tests.{eqb-true, not-false, ltb-false}
 use lib.Dec.{eqb}
 use lib.ListN.{length, replicate, length-replicate}
+use lib.Seq.{sets, take-all}
 use Rattle.words.specs.declared.Block.{Block}
 use Rattle.words.specs.Block.{value, halves, loaded, stored}
 use Rattle.words.specs.Bytes.{number, bytes, over}
-use Rattle.words.specs.Refuse.{Answer, answered, refuse}
 use Rattle.words.proofs.Blocks.{value-halves, value-is, value-lt, loaded-all, stored-all}
 use Rattle.words.proofs.Bytes.{number-bytes}
-use Rattle.words.proofs.Over.{over-over}
-use Rattle.words.proofs.Refusals.{Clear, refuse-clear, judged-refused, judged-clear}
+use Rattle.words.proofs.Over.{over-over, sets-front}
+use Rattle.answers.specs.Answers.{answered}
+use Rattle.answers.proofs.Answers.{Clear, refuse-clear}
 use Rattle.gift.specs.Gift.{encipher}
 use Rattle.gift.proofs.Entry.{enciphers-is}
-use Rattle.hyena.specs.declared.keyed.Keyed.{Keyed}
-use Rattle.hyena.specs.declared.Before.{Before}
-use Rattle.hyena.specs.declared.After.{After}
-use Rattle.hyena.specs.Hyena.{State, startBlock, dataFirst, afterData, afterText, swapped, ended, outputs, tag}
-use Rattle.hyena.specs.Entry.{gift, refusals, Sealed, sealing, textOf, recomputed, opening}
-use Rattle.hyena.specs.Steps.{keyed, enciphers, refusal, heldBefore, heldAfter, fedOf, stateOf}
-use Rattle.hyena.proofs.Trip.{data-out, length-outputs}
-use Rattle.hyena.proofs.Steps.{fed-held, state-held}
+use Rattle.mode.specs.Hyena.{State, startBlock, dataFirst, afterData, afterText, swapped, ended, outputs, tag}
+use Rattle.mode.proofs.Trip.{data-out, length-outputs}
+use Rattle.hyena_blocks.specs.declared.keyed.Keyed.{Keyed}
+use Rattle.hyena_blocks.specs.declared.Before.{Before}
+use Rattle.hyena_blocks.specs.declared.After.{After}
+use Rattle.hyena_blocks.specs.Steps.{keyed, enciphers, heldBefore, heldAfter, fedOf, stateOf, started, tagged}
+use Rattle.hyena_blocks.proofs.Steps.{fed-held, state-held}
+use Rattle.hyena.specs.Entry.{Inputs, refusals, outputOf, tagOf, Sealing, sealing, Opening, opening, gift}
 
 -- ---- the steps, one after the other
 
@@ -40,78 +41,84 @@ keyed-is : (k : ℕ) → enciphers (keyed k) ≡ encipher k
 unfolding enciphers keyed
 keyed-is k = fun-ext (enciphers-is k)
 
-pub ran : (way : Bool) (key nonce a d room : List ℕ) (e : Keyed) {k r : Block} {s : Before} {t u : After} {room′ : List ℕ} → length key ≡ 16
-    → k ≡ halves (loaded key 0 16) → e ≡ keyed (value k) → s ≡ heldBefore (dataFirst (enciphers e (startBlock nonce (length a) (length d))))
-    → t ≡ heldAfter (afterData (enciphers e) (fedOf s) a) → u ≡ heldAfter (afterText (enciphers e) way (stateOf t) d)
-    → room′ ≡ over (afterText (enciphers e) way (stateOf t) d .out) room → r ≡ halves (enciphers e (swapped (value (u .x))))
-    → (r ≡ halves (tag (gift key) way nonce a d)) × (room′ ≡ over (outputs (gift key) way nonce a d) room)
+pub ran : (way : Bool) (key nonce a d room : List ℕ) (e : Keyed) {k r : Block} {s : Before} {t u : After} {room′ : List ℕ} → length key ≡ 16 → length nonce ≡ 12
+    → k ≡ halves (loaded key 0 16) → e ≡ keyed (value k) → s ≡ started e nonce (length a) (length d) → t ≡ heldAfter (afterData (enciphers e) (fedOf s) a)
+    → u ≡ heldAfter (afterText (enciphers e) way (stateOf t) d) → room′ ≡ sets room 0 (afterText (enciphers e) way (stateOf t) d .out) → r ≡ tagged e u
+    → (r ≡ halves (tag (gift key) way nonce a d)) × (room′ ≡ sets room 0 (outputs (gift key) way nonce a d))
 unfolding tag outputs heldAfter
-ran way key nonce a d room e {k} {r} {s} {t} {u} {room′} lk ek ee es et eu er et′ =
+ran way key nonce a d room e {k} {r} {s} {t} {u} {room′} lk ln ek ee es et eu er et′ =
     let E = enciphers e in
     let eE : E ≡ gift key = ap enciphers ee ∙ keyed-is (value k) ∙ ap encipher (value-is ek ∙ loaded-all key lk) in
-    let en : afterText E way (stateOf t) d ≡ ended E way nonce a d = ended-is E way nonce a d es et in
+    let en : afterText E way (stateOf t) d ≡ ended E way nonce a d =
+    ended-is E way nonce a d (es ∙ ap (λ (n : List ℕ). heldBefore (dataFirst (E (startBlock n (length a) (length d))))) (take-all 12 nonce (omega arith))) et in
     let ex : value (u .x) ≡ ended E way nonce a d .X = ap (λ (z : After). value (z .x)) eu ∙ value-halves _ ∙ ap (λ (z : State). z .X) en in (
       et′ ∙ ap (λ (x : ℕ). halves (E (swapped x))) ex ∙ ap (λ F. halves (F (swapped (ended F way nonce a d .X)))) eE,
-      er ∙ ap (λ (z : State). over (z .out) room) en ∙ ap (λ F. over (ended F way nonce a d .out) room) eE,
+      er ∙ ap (λ (z : State). sets room 0 (z .out)) en ∙ ap (λ F. sets room 0 (ended F way nonce a d .out)) eE,
     )
 
--- ---- refusals
+-- ---- the lengths that are not refused
 
-module _ (key nonce ad text tag room : List ℕ) {r : ℕ} (er : answered r 0 ≡ refusal (length key) (length nonce) (length ad) (length text) (length tag) (length room)) where
-  pub refused : {A : Type 0} (kept : A) (follows : Answer A) → (r ≡ 0 → ⊥) → answered r kept ≡ refuse (refusals key nonce ad text tag room) kept follows
-  unfolding refusal
-  refused = judged-refused (refusals key nonce ad text tag room) er
+pub record Allowed (i : Inputs) (tag room : List ℕ) : Type 0 where
+  pub key-16 : length (i .key) ≡ 16
+  pub nonce-12 : length (i .nonce) ≡ 12
+  pub ad-most : length (i .ad) ≤ 65536
+  pub text-most : length (i .text) ≤ 1048576
+  pub tag-16 : length tag ≡ 16
+  pub room-fits : length (i .text) ≤ length room
 
-  pub clear : r ≡ 0 → Clear (refusals key nonce ad text tag room)
-  unfolding refusal
-  clear = judged-clear (refusals key nonce ad text tag room) er tt
+pub allowed : (i : Inputs) (tag room : List ℕ) → Clear (refusals i tag room) → Allowed i tag room
+allowed i tag room (key, (nonce, (ad, (text, (tag′, (room′, none)))))) =
+    record {
+      key-16 = eqb-true _ _ (not-false _ key);
+      nonce-12 = eqb-true _ _ (not-false _ nonce);
+      ad-most = ltb-false _ _ ad;
+      text-most = ltb-false _ _ text;
+      tag-16 = eqb-true _ _ (not-false _ tag′);
+      room-fits = ltb-false _ _ room′;
+    }
 
--- the lengths that are not refused
-module _ (key nonce ad text tag room : List ℕ) (c : Clear (refusals key nonce ad text tag room)) where
-  pub key-length : length key ≡ 16
-  key-length = eqb-true _ _ (not-false _ (c .0))
+-- ---- the entry points, over any cipher
 
-  pub nonce-length : length nonce ≡ 12
-  nonce-length = eqb-true _ _ (not-false _ (c .1 .0))
+module _ (cipher : List ℕ → ℕ → ℕ) (i : Inputs) where
+  -- what was written to the front of a room that is long enough
+  written : (way : Bool) (room : List ℕ) → length (i .text) ≤ length room → sets room 0 (outputOf cipher way i) ≡ over (outputOf cipher way i) room
+  written way room fits = sets-front (outputOf cipher way i) room (omega (arith, length-outputs (cipher (i .key)) way (i .nonce) (i .ad) (i .text)))
 
-  pub tag-length : length tag ≡ 16
-  tag-length = eqb-true _ _ (not-false _ (c .1 .1 .1 .1 .0))
+  -- a call that is not refused by its lengths goes by the tag
+  pub opening-by : (tag room : List ℕ) → Clear (refusals i tag room) → (t : Bool) → eqb (number tag) (number (tagOf cipher true i)) ≡ t
+      → opening cipher i tag room ≡ cond t (answered 0 (over (outputOf cipher true i) room)) (answered 7 (over (replicate (length (i .text)) 0) room))
+  unfolding opening
+  opening-by tag room c true e = refuse-clear room _ (refusals i tag room) c ∙ rw e
+  opening-by tag room c false e = refuse-clear room _ (refusals i tag room) c ∙ rw e
 
-  pub room-length : length text ≤ length room
-  room-length = ltb-false _ _ (c .1 .1 .1 .1 .1 .0)
+  module _ (tag₀ room : List ℕ) (c : Clear (refusals i tag₀ room)) where
+    pub sealed-is : {t : Block} {room′ tag′ : List ℕ} → t ≡ halves (tag (cipher (i .key)) false (i .nonce) (i .ad) (i .text)) → room′ ≡ sets room 0 (outputOf cipher false i)
+        → tag′ ≡ stored tag₀ 0 16 (value t) → Sealing cipher 0 i room tag₀ room′ tag′
+    unfolding sealing
+    sealed-is {t} et er eg =
+        let l = allowed i tag₀ room c in
+        ap₂ (λ (r g : List ℕ). answered 0 (record { room = r; tag = g })) (er ∙ written false room (l .room-fits))
+        (eg ∙ stored-all tag₀ (value t) (l .tag-16) ∙ ap (bytes 16) (value-is et))
+        ∙ sym (refuse-clear _ _ (refusals i tag₀ room) c)
 
--- ---- the entry points
+    module _ {t l : Block} {room₁ : List ℕ} (lo : t .lo < 2 ^ 64) (hi : t .hi < 2 ^ 64) (et : t ≡ halves (tag (cipher (i .key)) true (i .nonce) (i .ad) (i .text)))
+        (er : room₁ ≡ sets room 0 (outputOf cipher true i)) (el : l ≡ halves (loaded tag₀ 0 16)) where
+      -- what is compared
+      compared : eqb (value l) (value t) ≡ eqb (number tag₀) (number (tagOf cipher true i))
+      compared =
+          ap₂ eqb (value-is el ∙ loaded-all tag₀ (allowed i tag₀ room c .tag-16))
+          (sym (ap (λ (x : ℕ). number (bytes 16 x)) (sym (value-is et)) ∙ number-bytes 16 (value t) (value-lt t lo hi)))
 
--- a call that is not refused by its lengths goes by the tag
-pub opening-by : (key nonce ad text tag room : List ℕ) → Clear (refusals key nonce ad text tag room) → (t : Bool) → eqb (number tag) (number (recomputed key nonce ad text)) ≡ t
-    → opening key nonce ad text tag room ≡ cond t (answered 0 (over (textOf key nonce ad text) room)) (answered 7 (over (replicate (length text) 0) room))
-unfolding opening
-opening-by key nonce ad text tag room c true e = refuse-clear room _ (refusals key nonce ad text tag room) c ∙ rw e
-opening-by key nonce ad text tag room c false e = refuse-clear room _ (refusals key nonce ad text tag room) c ∙ rw e
+      text-there : room₁ ≡ over (outputOf cipher true i) room
+      text-there = er ∙ written true room (allowed i tag₀ room c .room-fits)
 
-module _ (key nonce ad text : List ℕ) (tag₀ room : List ℕ) (c : Clear (refusals key nonce ad text tag₀ room)) where
-  pub sealed-is : {t : Block} {room′ tag′ : List ℕ} → t ≡ halves (tag (gift key) false nonce ad text) → room′ ≡ over (outputs (gift key) false nonce ad text) room
-      → tag′ ≡ stored tag₀ 0 16 (value t) → answered {A = Sealed} 0 (record { room = room′; tag = tag′ }) ≡ sealing key nonce ad text room tag₀
-  unfolding sealing
-  sealed-is {t} et er eg =
-      ap₂ (λ (r g : List ℕ). answered {A = Sealed} 0 (record { room = r; tag = g })) er
-      (eg ∙ stored-all tag₀ (value t) (tag-length key nonce ad text tag₀ room c) ∙ ap (bytes 16) (value-is et))
-      ∙ sym (refuse-clear _ _ (refusals key nonce ad text tag₀ room) c)
+      pub opened-is : eqb (value l) (value t) ≡ true → Opening cipher 0 i tag₀ room room₁
+      opened-is e = ap (answered 0) text-there ∙ sym (opening-by tag₀ room c true (sym compared ∙ e))
 
-  module _ {t l : Block} {room₁ : List ℕ} (lo : t .lo < 2 ^ 64) (hi : t .hi < 2 ^ 64) (et : t ≡ halves (tag (gift key) true nonce ad text))
-      (er : room₁ ≡ over (outputs (gift key) true nonce ad text) room) (el : l ≡ halves (loaded tag₀ 0 16)) where
-    -- what is compared
-    compared : eqb (value l) (value t) ≡ eqb (number tag₀) (number (recomputed key nonce ad text))
-    compared =
-        ap₂ eqb (value-is el ∙ loaded-all tag₀ (tag-length key nonce ad text tag₀ room c))
-        (sym (ap (λ (x : ℕ). number (bytes 16 x)) (sym (value-is et)) ∙ number-bytes 16 (value t) (value-lt t lo hi)))
-
-    pub opened-is : eqb (value l) (value t) ≡ true → answered 0 room₁ ≡ opening key nonce ad text tag₀ room
-    opened-is e = ap (answered 0) er ∙ sym (opening-by key nonce ad text tag₀ room c true (sym compared ∙ e))
-
-    pub wrong-is : {room′ : List ℕ} → eqb (value l) (value t) ≡ false → room′ ≡ over (replicate (length text) 0) room₁ → answered 7 room′ ≡ opening key nonce ad text tag₀ room
-    wrong-is e ew =
-        ap (answered 7) (ew ∙ ap (over (replicate (length text) 0)) er
-        ∙ over-over (replicate (length text) 0) (outputs (gift key) true nonce ad text) room
-        (length-replicate (length text) 0 ∙ sym (length-outputs (gift key) nonce ad true text)))
-        ∙ sym (opening-by key nonce ad text tag₀ room c false (sym compared ∙ e))
+      pub wrong-is : {room′ : List ℕ} → eqb (value l) (value t) ≡ false → room′ ≡ over (replicate (length (i .text)) 0) room₁ → Opening cipher 7 i tag₀ room room′
+      wrong-is e ew =
+          let n = length (i .text) in
+          ap (answered 7) (ew ∙ ap (over (replicate n 0)) text-there
+          ∙ over-over (replicate n 0) (outputOf cipher true i) room
+          (length-replicate n 0 ∙ sym (length-outputs (cipher (i .key)) true (i .nonce) (i .ad) (i .text))))
+          ∙ sym (opening-by tag₀ room c false (sym compared ∙ e))

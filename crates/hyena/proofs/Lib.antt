@@ -1,8 +1,3 @@
-pub mod Cuts
-pub mod Trip
-pub mod Bounds
-pub mod Differ
-pub mod Examples
 pub mod Steps
 pub mod Entry
 pub mod Demands

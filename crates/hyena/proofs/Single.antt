@@ -1,24 +1,24 @@
--- Each public function's promise allows one result.
--- Assumes nothing.
-use mathlib.Core.Path.{_≡_}
-use mathlib.Core.List.{List}
+-- Each public function's promise allows one result, over any cipher, and its number is the smallest that applies. The short forms are
+-- the same with their own inputs.
+use mathlib.Core.Path.{_≡_, refl}
+use mathlib.Core.List.{List, [], _++_}
 use Prim.Native.Nat.{ℕ}
-use Rattle.words.specs.Refuse.{answered}
-use Rattle.words.proofs.Refusals.{same-answer}
-use Rattle.hyena.specs.Entry.{Sealed, sealing, opening, shortData}
+use Rattle.answers.specs.Answers.{applying, smallest}
+use Rattle.answers.proofs.Answers.{same-answer, answered-number, least-answered}
+use Rattle.hyena.specs.Entry.{Inputs, refusals, Sealed, wrongTag, sealing, Sealing, opening, Opening}
 
-pub seal-single : (key nonce ad text room tag : List ℕ) {m n : ℕ} {a b : Sealed} → answered m a ≡ sealing key nonce ad text room tag
-    → answered n b ≡ sealing key nonce ad text room tag → (m ≡ n) × (a ≡ b)
-seal-single key nonce ad text room tag = same-answer
+module _ (cipher : List ℕ → ℕ → ℕ) where
+  pub seal-single : (i : Inputs) (room tag : List ℕ) {m n : ℕ} {a b s t : List ℕ} → Sealing cipher m i room tag a s → Sealing cipher n i room tag b t
+      → (m ≡ n) × (_≡_ {A = Sealed} (record { room = a; tag = s }) (record { room = b; tag = t }))
+  seal-single i room tag = same-answer
 
-pub open-single : (key nonce ad text tag room : List ℕ) {m n : ℕ} {a b : List ℕ} → answered m a ≡ opening key nonce ad text tag room
-    → answered n b ≡ opening key nonce ad text tag room → (m ≡ n) × (a ≡ b)
-open-single key nonce ad text tag room = same-answer
+  pub open-single : (i : Inputs) (tag room : List ℕ) {m n : ℕ} {a b : List ℕ} → Opening cipher m i tag room a → Opening cipher n i tag room b → (m ≡ n) × (a ≡ b)
+  open-single i tag room = same-answer
 
-pub seal-short-single : (key nonce text room tag : List ℕ) {m n : ℕ} {a b : Sealed} → answered m a ≡ sealing key nonce shortData text room tag
-    → answered n b ≡ sealing key nonce shortData text room tag → (m ≡ n) × (a ≡ b)
-seal-short-single key nonce text room tag = same-answer
+  pub sealing-least : (i : Inputs) (room tag : List ℕ) → sealing cipher i room tag .number ≡ smallest (applying (refusals i tag room))
+  unfolding sealing
+  sealing-least i room tag = least-answered _ _ [] refl (refusals i tag room) tt
 
-pub open-short-single : (key nonce text tag room : List ℕ) {m n : ℕ} {a b : List ℕ} → answered m a ≡ opening key nonce shortData text tag room
-    → answered n b ≡ opening key nonce shortData text tag room → (m ≡ n) × (a ≡ b)
-open-short-single key nonce text tag room = same-answer
+  pub opening-least : (i : Inputs) (tag room : List ℕ) → opening cipher i tag room .number ≡ smallest (applying (refusals i tag room ++ wrongTag cipher i tag))
+  unfolding opening
+  opening-least i tag room = least-answered room _ (wrongTag cipher i tag) (answered-number _ _ [] refl (wrongTag cipher i tag)) (refusals i tag room) tt

@@ -1,18 +1,14 @@
--- HyENA of GIFT-128, and what the entry points answer.
--- Assumes nothing.
+-- What HyENA's entry points answer, over any block cipher.
 use Prim.Native.Nat.{ℕ}
-use mathlib.Core.Bool.{true, false, not}
+use mathlib.Core.Path.{_≡_}
+use mathlib.Core.Bool.{Bool, true, false, not}
 use mathlib.Core.List.{List, [], _∷_}
 use lib.Dec.{eqb, ltb}
 use lib.ListN.{length, replicate}
 use Rattle.words.specs.Bytes.{number, bytes, over}
-use Rattle.words.specs.Refuse.{Row, Answer, answered, refuse, answer}
+use Rattle.answers.specs.Answers.{Row, Answer, answered, refuse, answer}
 use Rattle.gift.specs.Gift.{encipher}
-use Rattle.hyena.specs.Hyena.{outputs, tag}
-
--- GIFT-128 under a key
-abbrev pub gift : List ℕ → ℕ → ℕ
-gift key x = encipher (number key) x
+use Rattle.mode.specs.Hyena.{outputs, tag}
 
 -- of the six lengths: 1 "key has a wrong length", 2 "nonce or iv has a wrong length", 3 "associated data too long", 4 "text or block
 -- length not allowed", 5 "tag, or room for it, not 16 bytes", 6 "room too short"
@@ -26,52 +22,63 @@ rows key nonce ad text tag room =
     ∷ record { applies = ltb room text; number = 6 }
     ∷ []
 
-abbrev pub refusals : List ℕ → List ℕ → List ℕ → List ℕ → List ℕ → List ℕ → List Row
-refusals key nonce ad text tag room = rows (length key) (length nonce) (length ad) (length text) (length tag) (length room)
+-- what a call is handed to read; in opening the text is the ciphertext
+pub record Inputs : Type 0 where
+  pub key : List ℕ
+  pub nonce : List ℕ
+  pub ad : List ℕ
+  pub text : List ℕ
 
--- ---- sealing
+abbrev pub inputs : List ℕ → List ℕ → List ℕ → List ℕ → Inputs
+inputs key nonce ad text = record { key = key; nonce = nonce; ad = ad; text = text }
 
--- the ciphertext and the tag of a text
-abbrev pub ciphertextOf : List ℕ → List ℕ → List ℕ → List ℕ → List ℕ
-ciphertextOf key nonce ad text = outputs (gift key) false nonce ad text
+-- "A short form of sealing and opening takes no associated data and uses the empty one."
+abbrev pub short : List ℕ → List ℕ → List ℕ → Inputs
+short key nonce text = inputs key nonce [] text
 
-abbrev pub tagOf : List ℕ → List ℕ → List ℕ → List ℕ → List ℕ
-tagOf key nonce ad text = bytes 16 (tag (gift key) false nonce ad text)
+-- with a tag, or room for it, and room for the text
+abbrev pub refusals : Inputs → List ℕ → List ℕ → List Row
+refusals i tag room = rows (length (i .key)) (length (i .nonce)) (length (i .ad)) (length (i .text)) (length tag) (length room)
 
 -- the memory that sealing writes
 pub record Sealed : Type 0 where
   pub room : List ℕ
   pub tag : List ℕ
 
--- the number that is answered, and what room and tag hold then
-unfoldable pub sealing : List ℕ → List ℕ → List ℕ → List ℕ → List ℕ → List ℕ → Answer Sealed
-sealing key nonce ad text room tag =
-    answer (refusals key nonce ad text tag room)
-    (record { room = over (ciphertextOf key nonce ad text) room; tag = tagOf key nonce ad text })
-    (record { room = room; tag = tag })
+-- over a block cipher: its block function under each key
+module _ (cipher : List ℕ → ℕ → ℕ) where
+  -- the ciphertext of a text, or the text of a ciphertext, and the tag of either
+  abbrev pub outputOf : Bool → Inputs → List ℕ
+  outputOf opening i = outputs (cipher (i .key)) opening (i .nonce) (i .ad) (i .text)
 
--- ---- opening
+  abbrev pub tagOf : Bool → Inputs → List ℕ
+  tagOf opening i = bytes 16 (tag (cipher (i .key)) opening (i .nonce) (i .ad) (i .text))
 
--- the text of a ciphertext, and the tag that opens it
-abbrev pub textOf : List ℕ → List ℕ → List ℕ → List ℕ → List ℕ
-textOf key nonce ad ciphertext = outputs (gift key) true nonce ad ciphertext
+  -- ---- sealing: the number that is answered, and what room and tag hold then
 
-abbrev pub recomputed : List ℕ → List ℕ → List ℕ → List ℕ → List ℕ
-recomputed key nonce ad ciphertext = bytes 16 (tag (gift key) true nonce ad ciphertext)
+  unfoldable pub sealing : Inputs → List ℕ → List ℕ → Answer Sealed
+  sealing i room tag = answer (refusals i tag room) (record { room = over (outputOf false i) room; tag = tagOf false i }) (record { room = room; tag = tag })
 
--- 7 "opening: tag is not the recomputed one"
-abbrev pub wrongTag : List ℕ → List ℕ → List ℕ → List ℕ → List ℕ → List Row
-wrongTag key nonce ad ciphertext tag = record { applies = not (eqb (number tag) (number (recomputed key nonce ad ciphertext))); number = 7 } ∷ []
+  -- the promise: r is answered, and room′ and tag′ are left
+  abbrev pub Sealing : ℕ → Inputs → List ℕ → List ℕ → List ℕ → List ℕ → Type 0
+  Sealing r i room tag room′ tag′ = answered r (record { room = room′; tag = tag′ }) ≡ sealing i room tag
 
--- the number that is answered, and what room holds then: with 7 "first bytes of the room, as many as the ciphertext has, are each
--- 0; the rest unchanged"
-unfoldable pub opening : List ℕ → List ℕ → List ℕ → List ℕ → List ℕ → List ℕ → Answer (List ℕ)
-opening key nonce ad ciphertext tag room =
-    refuse (refusals key nonce ad ciphertext tag room) room
-    (refuse (wrongTag key nonce ad ciphertext tag) (over (replicate (length ciphertext) 0) room)
-    (answered 0 (over (textOf key nonce ad ciphertext) room)))
+  -- ---- opening: 7 "opening: tag is not the recomputed one"
+  abbrev pub wrongTag : Inputs → List ℕ → List Row
+  wrongTag i tag = record { applies = not (eqb (number tag) (number (tagOf true i))); number = 7 } ∷ []
 
--- ---- "A short form of sealing and opening takes no associated data and uses the empty one."
+  -- the number that is answered, and what room holds then: with 7 "first bytes of the room, as many as the ciphertext has, are
+  -- each 0; the rest unchanged"
+  unfoldable pub opening : Inputs → List ℕ → List ℕ → Answer (List ℕ)
+  opening i tag room =
+      refuse (refusals i tag room) room
+      (refuse (wrongTag i tag) (over (replicate (length (i .text)) 0) room)
+      (answered 0 (over (outputOf true i) room)))
 
-abbrev pub shortData : List ℕ
-shortData = []
+  -- the promise: r is answered, and room′ is left
+  abbrev pub Opening : ℕ → Inputs → List ℕ → List ℕ → List ℕ → Type 0
+  Opening r i tag room room′ = answered r room′ ≡ opening i tag room
+
+-- GIFT-128 as such a cipher
+abbrev pub gift : List ℕ → ℕ → ℕ
+gift key x = encipher (number key) x

@@ -1,4 +1,2 @@
-pub mod Hyena
 pub mod Entry
 pub mod Demands
-pub mod Steps

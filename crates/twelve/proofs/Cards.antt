@@ -1,5 +1,4 @@
 -- "Twelve cards to prove": a single table under a single statement.
--- Assumes nothing.
 use mathlib.Core.Path.{_≡_, refl}
 use mathlib.Core.Bool.{false}
 use mathlib.Core.List.{List, [], _∷_, map}
@@ -8,7 +7,7 @@ use lib.ListN.{replicate}
 use Rattle.words.specs.Bytes.{filled, pad}
 use Rattle.words.specs.Turns.{turns}
 use Rattle.gift.specs.Gift.{sbox, place, roundConst}
-use Rattle.hyena.specs.Hyena.{double}
+use Rattle.mode.specs.Hyena.{double}
 use Rattle.blake.specs.Blake.{parameter}
 
 -- a card: what a definition gives, and what the document says

@@ -1,15 +1,15 @@
 -- A block and its number, each undoing the other; exclusive or of blocks; a block of sixteen bytes.
--- Assumes nothing.
 use mathlib.Core.Path.{_≡_, sym, ap, ap₂, _∙_, subst}
-use mathlib.Core.List.{List, _++_}
+use mathlib.Core.List.{List, _++_, append-nil}
 use Prim.Native.Nat.{ℕ, _+_, _-_, _*_, _^_, _≤_, _<_, min}
+use native.Mathlib.Decide.{decLe}
 use native.Mathlib.Omega.{arith}
 use lib.Arith.{digits-lt}
 use lib.Bits.{bitXor, xor-block}
-use lib.ListN.{length, take, drop, length-take, length-drop}
+use lib.ListN.{length, take, drop, length-take, length-drop, length-append}
 use lib.Pow.{split, high, low}
 use lib.Dec.{lit<}
-use lib.Seq.{drop-drop, sets, sets-eq, take-all, take-at, take-append-le, take-append-add, length-take-le}
+use lib.Seq.{drop-drop, sets, sets-eq, take-all, take-at, take-append-le, take-append-add}
 use Rattle.words.specs.declared.Block.{Block}
 use Rattle.words.specs.Block.{value, halves, part, loaded, stored}
 use Rattle.words.specs.Bytes.{Bytes, number, bytes, filled}
@@ -153,12 +153,19 @@ loaded-back s at n h k there =
     ap (take n) (ap (λ (i : ℕ). bytes i (number f)) (sym (length-filled 0 16 p)) ∙ bytes-number f hf) ∙ take-filled 0 n 16 p k ∙ filled-full 0 n p lp
 
 -- those that were stored in room for a block
-pub stored-back : (s : List ℕ) (n x : ℕ) → length s ≡ 16 → n ≤ 16 → part (stored s 0 n x) 0 n ≡ take n (bytes 16 x)
+pub stored-back : (s : List ℕ) (n x : ℕ) → length s ≡ 16 → part (stored s 0 n x) 0 n ≡ take n (bytes 16 x)
 unfolding stored
-stored-back s n x ls h =
+stored-back s n x ls =
     let v = take n (bytes 16 x) in
-    let lv : length v ≡ n = length-take-le n (bytes 16 x) (omega (arith, length-bytes 16 x)) in
-    ap (take n) (sets-eq v s 0 (omega arith)) ∙ take-at v (drop (0 + length v) s) n lv
+    let lv : length v ≡ min n 16 = simp (length-take, length-bytes) in
+    ap (take n) (sets-eq v s 0 (omega arith)) ∙ front v (drop (0 + length v) s) lv (simp length-drop (omega arith))
+  where
+    front : (v r : List ℕ) → length v ≡ min n 16 → length r ≡ 16 - length v → take n (v ++ r) ≡ v
+    front v r lv lr =
+        elim (decLe n 16) [
+          | yes k ↦ take-at v r n (omega arith)
+          | no k ↦ take-all n (v ++ r) (simp length-append (omega arith)) ∙ ap (λ (z : List ℕ). v ++ z) (sym (take-all 0 r (omega arith))) ∙ append-nil v
+        ]
 
 -- bytes that are loaded and stored are copied
 pub copied : (s room : List ℕ) (at : ℕ) {b : Block} → Bytes s → length s ≤ 16 → b ≡ halves (loaded s 0 (length s)) → stored room at (length s) (value b) ≡ sets room at s

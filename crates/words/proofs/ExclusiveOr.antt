@@ -1,5 +1,4 @@
 -- Exclusive or: associativity and cancellation.
--- Assumes nothing.
 use mathlib.Core.Path.{_≡_, refl, sym, ap, ap₂, _∙_}
 use Prim.Native.Nat.{ℕ, zero, suc, _+_, _*_, _/_, _%_, _<_}
 use native.Mathlib.Nat.{mod-lt, zero-lt-suc}

@@ -10,7 +10,9 @@ pub mod Plus
 pub mod Over
 pub mod Words
 pub mod Blocks
+pub mod Comparison
+pub mod Fields
 pub mod WordLists
 pub mod Squares
-pub mod Refusals
+pub mod Search
 pub mod Single

@@ -1,5 +1,4 @@
 -- Parts of lists, lists by a rule, and runs of stores.
--- Assumes nothing.
 use mathlib.Core.Path.{_≡_, refl, sym, ap, subst, _∙_}
 use mathlib.Core.Logic.{⊎-elim}
 use mathlib.Core.List.{List, [], _∷_, _++_, append-nil}
@@ -40,6 +39,12 @@ module _ {A : Type 0} where
     unfolding tab
     length-tab i zero = refl
     length-tab i (suc n) = ap suc (length-tab (suc i) n)
+
+    -- one part behind the other
+    pub tab-append : (i k n : ℕ) → tab f i (k + n) ≡ tab f i k ++ tab f (i + k) n
+    unfolding tab
+    tab-append i zero n = rw (zero-add, add-zero)
+    tab-append i (suc k) n = rw (suc-add, add-suc) (ap (λ (s : List A). f i ∷ s) (tab-append (suc i) k n ∙ rw suc-add))
 
     -- the first of those that are left
     pub tab-next : (i n : ℕ) → i < n → tab f i (n - i) ≡ f i ∷ tab f (i + 1) (n - (i + 1))

@@ -1,6 +1,5 @@
 -- Sums of byte lists by exclusive or.
--- Assumes nothing.
-use mathlib.Core.Path.{_≡_, refl, sym, ap, ap₂, _∙_}
+use mathlib.Core.Path.{_≡_, refl, ap, ap₂, _∙_}
 use mathlib.Core.List.{List, [], _∷_, _++_, append-nil}
 use Prim.Native.Nat.{ℕ, zero, suc, _+_, _-_, _/_, _≤_, _<_, min}
 use native.Mathlib.Decide.{decLe}
@@ -97,11 +96,6 @@ unfolding plus plusAt
 plusAt-append zero s t u = rw zero-add (after s t u)
 plusAt-append (suc at) [] t u = rw suc-add
 plusAt-append (suc at) (b ∷ s) t u = rw suc-add (ap (λ (r : List ℕ). b ∷ r) (plusAt-append at s t u))
-
--- to the first part of a list
-pub plusAt-part : (a b t : List ℕ) → length a ≡ length t → plusAt 0 (a ++ b) t ≡ plus a t ++ b
-plusAt-part a b t e =
-    plusAt-first (a ++ b) t ∙ ap (plus (a ++ b)) (sym (append-nil t)) ∙ plus-append a b t [] e ∙ ap (λ (r : List ℕ). plus a t ++ r) (plus-none b)
 
 -- ---- one byte after the other
 

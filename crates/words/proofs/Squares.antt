@@ -1,5 +1,4 @@
 -- Eight steps on sixteen words, of what the steps give.
--- Assumes nothing.
 use mathlib.Core.Path.{_≡_, sym, ap, _∙_}
 use mathlib.Core.List.{List, [], _∷_}
 use Prim.Native.Nat.{ℕ}

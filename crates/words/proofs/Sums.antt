@@ -1,6 +1,5 @@
 -- Sums by exclusive or, and digits to a base that is a power of two: through exclusive or, through a sum of shifted
 -- digits, and that numbers with equal digits are equal.
--- Assumes nothing.
 use mathlib.Core.Path.{_≡_, refl, sym, ap, ap₂, _∙_, subst, subst⁻¹}
 use mathlib.Core.Logic.{_≢_, ⊎-elim}
 use Prim.Native.Nat.{ℕ, zero, suc, _+_, _*_, _/_, _%_, _^_, _<_, suc-le-suc}

@@ -1,5 +1,4 @@
 -- Tests: one of two numbers by a test, and a fact about every number below a bound from one test that antt computes.
--- Assumes nothing.
 use mathlib.Core.Path.{_≡_, refl, subst⁻¹}
 use mathlib.Core.Logic.{⊎-elim}
 use mathlib.Core.Bool.{Bool, true, false, cond, _&&_}

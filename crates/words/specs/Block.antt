@@ -1,5 +1,4 @@
 -- A block: a number of 128 bits, held in the code as two halves of 64.
--- Assumes nothing.
 use Prim.Native.Nat.{ℕ, _+_, _*_, _/_, _%_, _^_}
 use mathlib.Core.List.{List}
 use lib.ListN.{take, drop}
@@ -18,6 +17,10 @@ halves x = record { lo = x % 2 ^ 64; hi = x / 2 ^ 64 }
 -- the n bytes of s from place at on, as many as are there
 abbrev pub part : List ℕ → ℕ → ℕ → List ℕ
 part s at n = take n (drop at s)
+
+-- the number of two of them; what is not there reads as 0
+abbrev pub two : List ℕ → ℕ → ℕ
+two s at = number (part s at 2)
 
 -- the number of at most 16 of them; what is not there reads as 0
 unfoldable pub loaded : List ℕ → ℕ → ℕ → ℕ

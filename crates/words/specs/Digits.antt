@@ -1,5 +1,4 @@
 -- Digits of a number, sums in so many bits, rotation, sums by exclusive or, and lists by a rule.
--- Assumes nothing.
 use Prim.Native.Nat.{ℕ, zero, suc, _+_, _-_, _*_, _/_, _%_, _^_}
 use mathlib.Core.List.{List, [], _∷_}
 use lib.Bits.{bitXor}

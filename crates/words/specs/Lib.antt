@@ -5,4 +5,5 @@ pub mod Digits
 pub mod Bytes
 pub mod Block
 pub mod Words
-pub mod Refuse
+pub mod Search
+pub mod Lent

@@ -1,5 +1,4 @@
 -- A step done again and again.
--- Assumes nothing.
 use Prim.Native.Nat.{ℕ, zero, suc}
 
 -- n turns, which are f 0, f 1, ..

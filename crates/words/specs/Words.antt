@@ -1,5 +1,4 @@
 -- Lists of bytes as lists of words of w bytes each, little-endian, and back.
--- Assumes nothing.
 use Prim.Native.Nat.{ℕ, _*_}
 use mathlib.Core.List.{List, [], _∷_, _++_}
 use Rattle.words.specs.Block.{part}

@@ -1,13 +1,17 @@
-// Numbers of 128 bits, how they are read from bytes and written to them, and sums of bytes. Nothing is refused
-// and nothing faults: what lies past the end of a slice reads as 0 and is not written.
+// Numbers of 128 bits, how they are read from bytes and written to them, sums of bytes, and slices that are compared,
+// searched or cut. Nothing is refused and nothing faults: what lies past the end of a slice reads as 0 and is not
+// written.
 ghost use mathlib.Core.Path.{_≡_};
 ghost use mathlib.Core.List.{[]};
 ghost use Prim.Native.Nat.{_+_, _-_, _≤_, _<_, min};
 ghost use lib.Bits.{bitXor};
-ghost use lib.ListN.{length};
+ghost use lib.Dec.{eqb};
+ghost use lib.ListN.{length, getD};
 ghost use lib.Seq.{sets};
 ghost use Rattle.words.specs.Bytes.{number, bytes, filled, plusAt};
-ghost use Rattle.words.specs.Block.{value, halves, part, loaded, loadedPad, stored};
+ghost use Rattle.words.specs.Block.{value, halves, part, loaded, loadedPad, stored, two as Block·two};
+ghost use Rattle.words.specs.Search.{same as Search·same, finding};
+ghost use Rattle.words.specs.Lent.{First};
 
 // A number of 128 bits.
 pub struct Block {
@@ -30,6 +34,15 @@ pub fn xor(a: Block, b: Block) -> Block
         lo: a.lo ^ b.lo,
         hi: a.hi ^ b.hi,
     }
+}
+
+// Whether two blocks are the same. Gathers what differs in all 16 bytes and folds it once more before the one test:
+// without the fold the compiler makes a test of each half, and how much of a block is right would be told by the time.
+pub fn equal(a: Block, b: Block) -> bool
+    ensures { λ r. ⌜ r ≡ eqb (value a) (value b) ⌝ }
+{
+    let d = (a.lo ^ b.lo) | (a.hi ^ b.hi);
+    (d | (d >> 32)) % 4294967296 == 0
 }
 
 // The block of n bytes of s, at most 16, from at on.
@@ -69,6 +82,61 @@ pub fn add(s: &mut [u8], at: usize, t: &[u8], from: usize, n: usize)
         s[at + i] = s[at + i] ^ t[from + i];
         i += 1;
     }
+}
+
+// The number of the two bytes of s from at on, the low one first.
+pub fn two(s: &[u8], at: usize) -> u16
+    ensures { λ r. ⌜ r ≡ Block·two (now (s .entry)) at ⌝ }
+{
+    if s.len() <= at {
+        return 0;
+    }
+    byte(s, at + 1) * 256 + byte(s, at)
+}
+
+fn byte(s: &[u8], at: usize) -> u16
+    ensures { λ r. ⌜ (r ≡ getD (now (s .entry)) at 0) × (r ≤ 255) ⌝ }
+{
+    if at < s.len() { s[at] as u16 } else { 0 }
+}
+
+// Whether two slices have the same bytes.
+pub fn same(s: &[u8], t: &[u8]) -> bool
+    ensures { λ r. ⌜ r ≡ Search·same (now (s .entry)) (now (t .entry)) ⌝ }
+{
+    if s.len() != t.len() {
+        return false;
+    }
+    let mut i = 0;
+    while i < s.len() {
+        if s[i] != t[i] {
+            return false;
+        }
+        i += 1;
+    }
+    true
+}
+
+// The first place from `from` on, before `to`, where s has b; where there is none, the end of what was searched.
+pub fn find(s: &[u8], from: usize, to: usize, b: u8) -> usize
+    ensures { λ r. ⌜ r ≡ finding (now (s .entry)) from to b ⌝ }
+{
+    let end = least(to, s.len());
+    let mut i = from;
+    while i < end {
+        if s[i] == b {
+            return i;
+        }
+        i += 1;
+    }
+    i
+}
+
+// The first n bytes of s, or all.
+pub fn first(s: &[u8], n: usize) -> &[u8]
+    ensures { λ r. ⌜ First r (s .entry) n ⌝ }
+{
+    if n < s.len() { &s[..n] } else { s }
 }
 
 // How many of n bytes from at on lie in a slice of len bytes, at most 16.

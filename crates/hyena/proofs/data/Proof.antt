@@ -4,9 +4,10 @@ use native.Mathlib.Omega.{arith}
 use denote.Ref.{now}
 use Rattle.words.specs.Bytes.{Bytes}
 use Rattle.words.proofs.Turns.{turns-none}
-use Rattle.hyena.specs.Hyena.{before}
-use Rattle.hyena.specs.Steps.{enciphers, heldBefore, fedOf}
-use Rattle.hyena.proofs.Steps.{held-fed, dataAt, data-turn, data-end, data-none}
+use Rattle.mode.specs.Hyena.{before, dataAt}
+use Rattle.hyena_blocks.specs.Steps.{enciphers, heldBefore, fedOf}
+use Rattle.hyena.proofs.Steps.{data-turn, data-end, data-none}
+use Rattle.hyena_blocks.proofs.Steps.{held-fed}
 use borrow.Author.Needs.{needs}
 use Rattle.hyena.proofs.data.Statement.{statement}
 use Rattle.hyena.proofs.data.Tie as tie

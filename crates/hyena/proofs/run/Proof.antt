@@ -34,7 +34,7 @@ returns c =
     let l = e .before in
     let b = l .before .before .before .before .before .before in
     let a = b .args in
-    ran (a .opening) (now (a .key)) (now (a .nonce)) (now (a .ad)) (now (a .text)) (now (a .room)) (e .keyed-of .result) (b .pre .0)
+    ran (a .opening) (now (a .key)) (now (a .nonce)) (now (a .ad)) (now (a .text)) (now (a .room)) (e .keyed-of .result) (b .pre .0) (b .pre .1)
     (l .load .ensures) (e .keyed-of .ensures) (s .start .ensures) (d .«data» .ensures) (x .texts .ensures .0) (x .texts .ensures .1) (c .tag-of .ensures)
 
 pub run-spec : {M : Type 1} → statement M

@@ -1,31 +1,34 @@
 use denote.Ref.{now}
-use Rattle.words.proofs.Refusals.{Clear}
-use Rattle.hyena.specs.Entry.{refusals, sealing}
-use Rattle.hyena.proofs.Entry.{refused, clear, key-length, nonce-length, room-length, sealed-is}
+use Rattle.answers.proofs.Answers.{Clear, judged-refused, judged-clear}
+use Rattle.hyena.specs.Entry.{Inputs, inputs, refusals, sealing, gift}
+use Rattle.hyena.proofs.Entry.{Allowed, allowed, sealed-is}
 use borrow.Author.Needs.{needs}
 use Rattle.hyena.proofs.seal.Statement.{statement}
 use Rattle.hyena.proofs.seal.Tie as tie
 
-refusal-of-requires : tie.Need-refusal-of-requires
-refusal-of-requires c κs = search needs
+refusal-requires : tie.Need-refusal-requires
+refusal-requires c κs = search needs
 
 returns : tie.Need-returns
 unfolding sealing
 returns c =
     let a = c .before .before .before .before .before .before .before .before .args in
-    refused (now (a .key)) (now (a .nonce)) (now (a .ad)) (now (a .text)) (now (a .tag)) (now (a .room)) (c .before .refusal-of .ensures) _ _ (c .if1 .taken)
+    judged-refused (refusals (inputs (now (a .key)) (now (a .nonce)) (now (a .ad)) (now (a .text))) (now (a .tag)) (now (a .room))) (c .before .refusal .ensures) _ _ (c .if1 .taken)
 
--- the refusals that the lengths do not call for
-clear-of : (c : tie.Else1) → let a = c .before .before .before .before .before .before .before .before .args in Clear (refusals (now (a .key)) (now (a .nonce)) (now (a .ad)) (now (a .text)) (now (a .tag)) (now (a .room)))
-clear-of c =
+-- what was handed over, of which no length is refused
+abbrev given : tie.Else1 → Inputs
+given c = let a = c .before .before .before .before .before .before .before .before .args in inputs (now (a .key)) (now (a .nonce)) (now (a .ad)) (now (a .text))
+
+clear : (c : tie.Else1) → let a = c .before .before .before .before .before .before .before .before .args in Clear (refusals (given c) (now (a .tag)) (now (a .room)))
+clear c =
     let a = c .before .before .before .before .before .before .before .before .args in
-    clear (now (a .key)) (now (a .nonce)) (now (a .ad)) (now (a .text)) (now (a .tag)) (now (a .room)) (c .before .refusal-of .ensures) (c .if1 .left)
+    judged-clear (refusals (given c) (now (a .tag)) (now (a .room))) (c .before .refusal .ensures) tt (c .if1 .left)
+
+lengths : (c : tie.Else1) → let a = c .before .before .before .before .before .before .before .before .args in Allowed (given c) (now (a .tag)) (now (a .room))
+lengths c = let a = c .before .before .before .before .before .before .before .before .args in allowed (given c) (now (a .tag)) (now (a .room)) (clear c)
 
 run-requires : tie.Need-run-requires
-run-requires c κs =
-    let a = c .before .before .before .before .before .before .before .before .before .args in
-    let k = clear-of (c .before) in
-    (key-length (now (a .key)) (now (a .nonce)) (now (a .ad)) (now (a .text)) (now (a .tag)) (now (a .room)) k, nonce-length (now (a .key)) (now (a .nonce)) (now (a .ad)) (now (a .text)) (now (a .tag)) (now (a .room)) k, room-length (now (a .key)) (now (a .nonce)) (now (a .ad)) (now (a .text)) (now (a .tag)) (now (a .room)) k)
+run-requires c κs = (lengths (c .before) .key-16, lengths (c .before) .nonce-12)
 
 store-requires : tie.Need-store-requires
 store-requires c κs = search needs
@@ -41,8 +44,7 @@ returns-2 c =
     let s = c .before .before in
     let n = s .before .before .before .before in
     let b = n .before .before in
-    let a = b .before .before .before .before .before .before .before .before .args in
-    sealed-is (now (a .key)) (now (a .nonce)) (now (a .ad)) (now (a .text)) (now (a .tag)) (now (a .room)) (clear-of b) (n .run .ensures .0) (n .run .ensures .1) (s .store .ensures)
+    sealed-is gift (given b) _ _ (clear b) (n .run .ensures .0) (n .run .ensures .1) (s .store .ensures)
 
 pub seal-spec : {M : Type 1} → statement M
-seal-spec = tie.close (tie.spec refusal-of-requires returns run-requires store-requires same-length same-length-2 returns-2)
+seal-spec = tie.close (tie.spec refusal-requires returns run-requires store-requires same-length same-length-2 returns-2)

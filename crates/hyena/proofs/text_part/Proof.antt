@@ -2,7 +2,7 @@ use mathlib.Core.Path.{ap}
 use native.Mathlib.Omega.{arith}
 use denote.Ref.{now}
 use Rattle.words.specs.Bytes.{Bytes}
-use Rattle.hyena.specs.Steps.{enciphers}
+use Rattle.hyena_blocks.specs.Steps.{enciphers}
 use Rattle.hyena.proofs.Steps.{part-is}
 use borrow.Author.Needs.{needs}
 use Rattle.hyena.proofs.text_part.Statement.{statement}

@@ -3,9 +3,8 @@ use Prim.Native.Nat.{_-_, _≤_, _<_}
 use native.Mathlib.Omega.{arith}
 use denote.Ref.{now}
 use lib.ListN.{length}
-use Rattle.hyena.specs.Hyena.{before}
-use Rattle.hyena.specs.Steps.{enciphers, stateOf}
-use Rattle.hyena.proofs.Trip.{textAt}
+use Rattle.mode.specs.Hyena.{before, textAt}
+use Rattle.hyena_blocks.specs.Steps.{enciphers, stateOf}
 use Rattle.hyena.proofs.Steps.{Held, text-start, text-turn, text-end, text-empty}
 use borrow.Author.Needs.{needs}
 use Rattle.hyena.proofs.texts.Statement.{statement}
@@ -52,7 +51,7 @@ loop-again c =
     let t : l .loop .i < before (now (a .text)) = omega arith in (
       omega arith,
       search needs,
-      text-turn (enciphers (a .e)) (a .opening) (now (a .text)) (now (a .room)) (d .pre) (stateOf (a .t)) refl (l .loop .i) t (l .loop .inv .2) (p .text-part .ensures .0) (p .text-part .ensures .1),
+      text-turn (enciphers (a .e)) (a .opening) (now (a .text)) (now (a .room)) (stateOf (a .t)) refl (l .loop .i) t (l .loop .inv .2) (p .text-part .ensures .0) (p .text-part .ensures .1),
     )
 
 mul-left : tie.Need-mul-left Inv-loop μ-loop
@@ -81,7 +80,7 @@ returns-2 c =
     let d = l .before .before .before .before in
     let a = d .args in
     let e : l .loop .i ≡ before (now (a .text)) = omega arith in
-    text-end (enciphers (a .e)) (a .opening) (now (a .text)) (now (a .room)) (d .pre) (stateOf (a .t)) refl _ (l .before .if1 .left)
+    text-end (enciphers (a .e)) (a .opening) (now (a .text)) (now (a .room)) (stateOf (a .t)) refl _ (l .before .if1 .left)
     (subst (λ i. Held (textAt (enciphers (a .e)) (a .opening) (now (a .text)) (stateOf (a .t)) i) (now (a .room)) (l .loop .s) (l .loop .room)) e (l .loop .inv .2))
     (f .if-full .ensures) (p .text-part2 .ensures .0) (p .text-part2 .ensures .1)
 

@@ -1,0 +1,15 @@
+use mathlib.Core.Path.{ap}
+use Rattle.hyena_blocks.specs.Steps.{keyed}
+use borrow.Author.Needs.{needs}
+use Rattle.hyena_blocks.proofs.keyed.keyed_of.Statement.{statement}
+use Rattle.hyena_blocks.proofs.keyed.keyed_of.Tie as tie
+
+additions-of-requires : tie.Need-additions-of-requires
+additions-of-requires c κs = search needs
+
+returns : tie.Need-returns
+unfolding keyed
+returns c = ap (λ a. record { additions = a }) (c .additions-of .ensures)
+
+pub keyed-of-spec : {M : Type 1} → statement M
+keyed-of-spec = tie.close (tie.spec additions-of-requires returns)

@@ -1,0 +1,25 @@
+// The block cipher with its key: what the rounds add is worked out once. Nothing above this file names the cipher.
+ghost use mathlib.Core.Path.{_≡_};
+ghost use Rattle.words.specs.Block.{value, halves};
+ghost use Rattle.hyena_blocks.specs.Steps.{keyed, enciphers};
+use gift::Additions;
+use words::Block;
+
+pub struct Keyed {
+    pub additions: Additions,
+}
+
+pub fn keyed_of(key: Block) -> Keyed
+    ensures { λ r. ⌜ r ≡ keyed (value key) ⌝ }
+{
+    Keyed {
+        additions: gift::additions_of(key),
+    }
+}
+
+// E of x.
+pub(crate) fn block(e: Keyed, x: Block) -> Block
+    ensures { λ r. ⌜ r ≡ halves (enciphers e (value x)) ⌝ }
+{
+    gift::encipher_block(e.additions, x)
+}

@@ -1,0 +1,2 @@
+pub mod Hyena
+pub mod Demands

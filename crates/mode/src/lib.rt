@@ -1,0 +1,1 @@
+// HyENA over any block function: definitions and theorems only, no function.
