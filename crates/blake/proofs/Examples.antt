@@ -1,5 +1,4 @@
 -- RFC 7693's worked example, of the definitions.
--- Assumes nothing.
 use mathlib.Core.Path.{_≡_, refl}
 use mathlib.Core.List.{[], _∷_}
 use Rattle.words.specs.Bytes.{number, bytes, filled}

@@ -1,5 +1,4 @@
 -- The compression, the run over the data and the digest, of what the code's calls ensure.
--- Assumes nothing.
 use mathlib.Core.Path.{_≡_, refl, sym, ap, _∙_}
 use mathlib.Core.Bool.{Bool, true, false, cond}
 use mathlib.Core.List.{List, [], _∷_, _++_, append-nil}
@@ -9,18 +8,19 @@ use native.Mathlib.Omega.{arith}
 use lib.Bits.{bitXor}
 use lib.ListN.{length, getD, take, drop, length-take, length-drop, length-append}
 use lib.Seq.{sets, length-take-le, take-all, take-at, drop-at, drop-drop}
-use borrow.Author.Tests.{ne-eqb, le-ltb}
+use borrow.Author.Tests.{ltb-false, ne-eqb, le-ltb}
 use Rattle.words.specs.declared.Block.{Block}
 use Rattle.words.specs.Block.{halves, part, loaded}
 use Rattle.words.specs.Bytes.{Bytes, number}
 use Rattle.words.specs.Digits.{tab}
-use Rattle.words.specs.Refuse.{answered}
+use Rattle.answers.specs.Answers.{answered}
+use Rattle.answers.proofs.Answers.{Clear}
 use Rattle.words.specs.Words.{words, unwords}
 use Rattle.words.proofs.Bytes.{length-filled, filled-full}
 use Rattle.words.proofs.Lists.{length-tab, listed, sets-whole}
 use Rattle.words.proofs.WordLists.{number-filled, loaded-word, length-unwords}
 use Rattle.blake.specs.Blake.{iv, rounds, vector, folded, compress, padded, startChain, absorbed, keyed, hashed, digest}
-use Rattle.blake.specs.Entry.{digesting}
+use Rattle.blake.specs.Entry.{rows, digesting}
 
 -- ---- a block
 
@@ -163,7 +163,15 @@ unfolding digest
 digest-is key text room out h k eh eo =
     eo ∙ ap (λ (l : List ℕ). sets room 0 (unwords 8 l)) eh ∙ sets-whole room (unwords 8 (hashed key text (length room))) (omega (arith, length-chain key text (length room)))
 
--- where nothing is refused
+-- what is not refused
+pub record Allowed (key text room : ℕ) : Type 0 where
+  pub key-most : key ≤ 64
+  pub text-most : text ≤ 1048576
+  pub room-most : room ≤ 64
+
+pub allowed : (key text room : ℕ) → Clear (rows key text room) → Allowed key text room
+allowed key text room (k, (t, (some, (r, none)))) = record { key-most = ltb-false _ _ k; text-most = ltb-false _ _ t; room-most = ltb-false _ _ r }
+
 pub digesting-done : (key text room : List ℕ) → length key ≤ 64 → length text ≤ 1048576 → (length room ≡ 0 → ⊥) → length room ≤ 64
     → digesting key text room ≡ answered 0 (digest key text (length room))
 unfolding digesting

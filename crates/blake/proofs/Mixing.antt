@@ -1,5 +1,4 @@
 -- The mixing and the rounds, of what the code's calls ensure.
--- Assumes nothing.
 use mathlib.Core.Path.{_≡_, ap, ap₂, subst⁻¹, _∙_}
 use mathlib.Core.List.{List}
 use Prim.Native.Nat.{ℕ, _+_, _*_, _%_, _<_}

@@ -1,12 +1,16 @@
 -- The public function's promise allows one result.
--- Assumes nothing.
-use mathlib.Core.Path.{_≡_}
-use mathlib.Core.List.{List}
+use mathlib.Core.Path.{_≡_, refl}
+use mathlib.Core.List.{List, []}
 use Prim.Native.Nat.{ℕ}
-use Rattle.words.specs.Refuse.{answered}
-use Rattle.words.proofs.Refusals.{same-answer}
-use Rattle.blake.specs.Entry.{digesting}
+use lib.ListN.{length}
+use Rattle.answers.specs.Answers.{applying, smallest}
+use Rattle.answers.proofs.Answers.{same-answer, least-answered}
+use Rattle.blake.specs.Entry.{rows, digesting, Digesting}
 
-pub digest-single : (key text room : List ℕ) {m n : ℕ} {a b : List ℕ} → answered m a ≡ digesting key text room → answered n b ≡ digesting key text room
-    → (m ≡ n) × (a ≡ b)
+pub digest-single : (key text room : List ℕ) {m n : ℕ} {a b : List ℕ} → Digesting m key text room a → Digesting n key text room b → (m ≡ n) × (a ≡ b)
 digest-single key text room = same-answer
+
+-- the number is the smallest that applies
+pub digesting-least : (key text room : List ℕ) → digesting key text room .number ≡ smallest (applying (rows (length key) (length text) (length room)))
+unfolding digesting
+digesting-least key text room = least-answered _ _ [] refl (rows (length key) (length text) (length room)) tt

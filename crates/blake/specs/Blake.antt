@@ -1,6 +1,5 @@
 -- BLAKE2b, as RFC 7693 fixes it; the numbers of its sections stand before each part. Words have 64 bits; a vector is a list
 -- of sixteen of them, a chain value a list of eight.
--- Assumes nothing.
 use Prim.Native.Nat.{ℕ, zero, suc, _+_, _-_, _*_, _/_, _%_, _^_}
 use mathlib.Core.Bool.{Bool, true, false, cond}
 use mathlib.Core.List.{List, [], _∷_, _++_}

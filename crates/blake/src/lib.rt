@@ -1,4 +1,5 @@
 // BLAKE2b with a key.
+use answers::row;
 use std::num::wrapping_add_u64;
 use words::Block;
 ghost use mathlib.Core.Path.{_≡_};
@@ -9,32 +10,33 @@ ghost use lib.ListN.{length};
 ghost use lib.Seq.{sets};
 ghost use Rattle.words.specs.Block.{part};
 ghost use Rattle.words.specs.Digits.{rotr};
-ghost use Rattle.words.specs.Refuse.{answered};
+ghost use Rattle.answers.specs.Answers.{numberOf};
 ghost use Rattle.words.specs.Words.{words, unwords};
 ghost use Rattle.blake.specs.Blake.{sigmaTable, sigma, mixed, wordAt, mixing, round, rounds, vector, folded, compress, padded, startChain, absorbed, hashed};
-ghost use Rattle.blake.specs.Entry.{digesting};
+ghost use Rattle.blake.specs.Entry.{rows, Digesting};
 
 mod tables;
 
 // Fills room with the digest of text under key, as long as the room. Answers 0, or the refusal.
 pub fn digest(key: &[u8], text: &[u8], room: &mut [u8]) -> u32
-    ensures { λ r. ⌜ answered r (now (room .exit)) ≡ digesting (now (key .entry)) (now (text .entry)) (now (room .entry)) ⌝ }
+    ensures { λ r. ⌜ Digesting r (now (key .entry)) (now (text .entry)) (now (room .entry)) (now (room .exit)) ⌝ }
 {
-    if key.len() > 64 {
-        return 1;
-    }
-    if text.len() > 1048576 {
-        return 4;
-    }
-    if room.len() == 0 {
-        return 6;
-    }
-    if room.len() > 64 {
-        return 6;
+    let refused = refusal(key.len(), text.len(), room.len());
+    if refused != 0 {
+        return refused;
     }
     let h = hash_of(key, text, room.len());
     put_words(room, h);
     0
+}
+
+// The refusal that the lengths call for, or 0: the rows from the last up.
+fn refusal(key: usize, text: usize, room: usize) -> u32
+    ensures { λ r. ⌜ r ≡ numberOf (rows key text room) ⌝ }
+{
+    let six = row(room == 0, 6, row(room > 64, 6, 0));
+    let four = row(text > 1048576, 4, six);
+    row(key > 64, 1, four)
 }
 
 // Writes the words of h to the front of room, as far as it goes.

@@ -1,5 +1,4 @@
 -- The entry that is found is the one for the class, and a well-formed book has no other.
--- Assumes nothing.
 use mathlib.Core.Path.{_≡_, sym, ap, subst, _∙_}
 use mathlib.Core.Logic.{⊎-elim}
 use mathlib.Core.Bool.{true, and-eq-true-iff}
@@ -12,7 +11,8 @@ use borrow.Author.Tests.{ltb-true, eq-eqb, ne-eqb, lt-ltb}
 use lib.Dec.{eqb, ltb}
 use lib.ListN.{length}
 use Rattle.words.specs.Digits.{tab}
-use Rattle.books.specs.Books.{count, class, classes, rising, wellFormed, placeOf, entry, holds}
+use Rattle.words.specs.Search.{placeOf}
+use Rattle.books.specs.Books.{count, class, classes, rising, wellFormed, entry, holds}
 
 module _ (f : ℕ → ℕ) (c : ℕ) where
   -- what stands at the place found is c

@@ -1,13 +1,13 @@
 -- The definitions computed on small books.
--- Assumes nothing.
 use mathlib.Core.Path.{_≡_, refl}
 use mathlib.Core.List.{List, [], _∷_, _++_}
 use Prim.Native.Nat.{ℕ, _/_, _%_}
 use lib.ListN.{replicate}
 use Rattle.words.specs.Bytes.{number}
 use Rattle.words.specs.Digits.{tab}
-use Rattle.words.specs.Refuse.{Answer, answered}
-use Rattle.books.specs.Books.{count, class, rising, wellFormed, placeOf}
+use Rattle.words.specs.Search.{placeOf}
+use Rattle.answers.specs.Answers.{Answer, answered}
+use Rattle.books.specs.Books.{count, class, rising, wellFormed}
 use Rattle.books.specs.Entry.{Place, finding, handedBack}
 
 -- one entry, for class 7

@@ -1,9 +1,8 @@
 -- The part that is handed back: it lies within its book, and it is 16 bytes long exactly when the number is 0.
--- Assumes nothing.
 use mathlib.Core.Path.{_≡_, refl, ap, subst⁻¹}
 use mathlib.Core.Logic.{_↔_}
 use mathlib.Core.Bool.{Bool, true, false, cond, _||_, and-eq-true-iff}
-use mathlib.Core.List.{List, []}
+use mathlib.Core.List.{List, [], _++_}
 use Prim.Native.Nat.{ℕ, _+_, _-_, _*_, _≤_}
 use native.Mathlib.Nat.{add-comm, add-sub-cancel-left}
 use native.Mathlib.Decide.{ℕ-discrete}
@@ -11,13 +10,14 @@ use native.Mathlib.Omega.{arith}
 use borrow.Author.Tests.{eqb-true, eq-eqb, ne-eqb, ltb-true, not-false}
 use lib.Dec.{eqb}
 use lib.ListN.{length, take, drop}
-use Rattle.words.specs.Refuse.{Answer, answered}
+use Rattle.words.specs.Lent.{Lent, within}
+use Rattle.answers.specs.Answers.{Row, Answer, answered}
 use Rattle.words.proofs.Lists.{length-part}
-use Rattle.words.proofs.Refusals.{Clear, answer-has}
+use Rattle.answers.proofs.Answers.{Clear, answer-has}
 use Rattle.books.specs.declared.Found.{Found}
 use Rattle.books.specs.Books.{count, keyPlace, rising, classes, wellFormed, entry, holds}
 use Rattle.books.proofs.Finding.{told}
-use Rattle.books.specs.Entry.{Place, refusals, nowhere, placed, finding, Lent, within, handedBack}
+use Rattle.books.specs.Entry.{badlyFormed, noEntry, Place, nowhere, placed, finding, handedBack}
 
 -- a key that a well-formed book holds lies within it
 key-fits : (c : ℕ) (book : List ℕ) → wellFormed book ≡ true → holds c book ≡ true → keyPlace (entry c book) + 16 ≤ length book
@@ -42,10 +42,12 @@ module _ (this last : Lent) (c : ℕ) where
   abbrev found : Answer Place
   found = finding (this .bytes) (last .bytes) c
 
-  placed-fits : Clear (refusals (this .bytes) (last .bytes) c) → Fits this last (answered 0 (placed (this .bytes) (last .bytes) c))
-  placed-fits k =
-      let w = and-eq-true-iff (wellFormed (this .bytes)) (wellFormed (last .bytes)) .0 (not-false _ (k .0)) in
-      by (holds c (this .bytes)) (holds c (last .bytes)) (not-false _ (k .1 .0)) (key-fits c (this .bytes) (w .0)) (key-fits c (last .bytes) (w .1))
+  abbrev refusals : List Row
+  refusals = badlyFormed (this .bytes) (last .bytes) ++ noEntry (this .bytes) (last .bytes) c
+
+  placed-fits : Clear refusals → Fits this last (answered 0 (placed (this .bytes) (last .bytes) c))
+  placed-fits (this-formed, (last-formed, (held, none))) =
+      by (holds c (this .bytes)) (holds c (last .bytes)) (not-false _ held) (key-fits c (this .bytes) (not-false _ this-formed)) (key-fits c (last .bytes) (not-false _ last-formed))
     where
       by : (t u : Bool) → t || u ≡ true → (t ≡ true → keyPlace (entry c (this .bytes)) + 16 ≤ length (this .bytes)) → (u ≡ true → keyPlace (entry c (last .bytes)) + 16 ≤ length (last .bytes))
           → Fits this last (answered 0 (cond t (record { book = 0; at = keyPlace (entry c (this .bytes)) }) (record { book = 1; at = keyPlace (entry c (last .bytes)) })))
@@ -55,7 +57,7 @@ module _ (this last : Lent) (c : ℕ) where
   pub answer-fits : Fits this last found
   unfolding finding
   answer-fits =
-      answer-has (placed (this .bytes) (last .bytes) c) nowhere (refusals (this .bytes) (last .bytes) c) (Fits this last) tt placed-fits (λ n z. rw (ne-eqb n 0 z) (omega arith))
+      answer-has (placed (this .bytes) (last .bytes) c) nowhere refusals (Fits this last) tt placed-fits (λ n z. rw (ne-eqb n 0 z) (omega arith))
 
   -- of what the search answered, in the book and of the length that it gives
   module _ {f : Found} (e : told f ≡ found) {s : Lent} (es : s ≡ cond (eqb (f .book) 0) this last) {n : ℕ} (en : n ≡ cond (eqb (f .number) 0) 16 0) where

@@ -1,5 +1,4 @@
 -- The loops over a book's entries: each says of the entries that are left what the definition says of all.
--- Assumes nothing.
 use mathlib.Core.Path.{_≡_, refl, sym, _∙_}
 use mathlib.Core.Bool.{Bool, true, false}
 use mathlib.Core.List.{List}
@@ -8,11 +7,10 @@ use native.Mathlib.Nat.{add-zero}
 use native.Mathlib.Omega.{arith}
 use borrow.Author.Tests.{eq-eqb, ne-eqb, lt-ltb, le-ltb}
 use lib.ListN.{length}
-use Rattle.words.specs.Block.{part}
-use Rattle.words.specs.Bytes.{number}
 use Rattle.words.specs.Digits.{tab}
+use Rattle.words.specs.Search.{placeOf}
 use Rattle.words.proofs.Lists.{tab-next}
-use Rattle.books.specs.Books.{count, class, rising, wellFormed, placeOf, entry}
+use Rattle.books.specs.Books.{count, class, rising, wellFormed, entry}
 
 -- ---- numbers that rise
 
@@ -36,14 +34,14 @@ module _ (f : ℕ → ℕ) (n i : ℕ) {t : Bool} (inv : rising (tab f i (n - i)
 
 -- ---- a book that is judged
 
-module _ (book : List ℕ) {n : ℕ} (e : n ≡ number (part book 0 2)) where
+module _ (book : List ℕ) {n : ℕ} (e : n ≡ count book) where
   pub other-length : (length book ≡ 2 + 18 * n → ⊥) → false ≡ wellFormed book
-  unfolding count wellFormed
-  other-length h = rw (ne-eqb (length book) (2 + 18 * number (part book 0 2)) (rw e at h))
+  unfolding wellFormed
+  other-length h = rw (ne-eqb (length book) (2 + 18 * count book) (rw e at h))
 
   pub judged : {t : Bool} → length book ≡ 2 + 18 * n → t ≡ rising (tab (class book) 0 n) → t ≡ wellFormed book
-  unfolding count wellFormed
-  judged h k = k ∙ rw (eq-eqb (length book) (2 + 18 * number (part book 0 2)) (rw e at h), e)
+  unfolding wellFormed
+  judged h k = k ∙ rw (eq-eqb (length book) (2 + 18 * count book) (rw e at h), e)
 
 -- ---- the entry for a class
 
@@ -60,6 +58,5 @@ module _ (f : ℕ → ℕ) (c n i : ℕ) {p : ℕ} (inv : i + placeOf c (tab f i
   unfolding placeOf tab
   ended h = let e : n - i ≡ 0 = omega arith in sym (rw e (add-zero i)) ∙ inv
 
-pub entry-is : (c : ℕ) (book : List ℕ) {n : ℕ} → n ≡ number (part book 0 2) → placeOf c (tab (class book) 0 n) ≡ entry c book
-unfolding count
+pub entry-is : (c : ℕ) (book : List ℕ) {n : ℕ} → n ≡ count book → placeOf c (tab (class book) 0 n) ≡ entry c book
 entry-is c book e = rw e

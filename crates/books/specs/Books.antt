@@ -1,13 +1,13 @@
 -- A key book.
--- Assumes nothing.
-use Prim.Native.Nat.{ℕ, suc, _+_, _*_}
-use mathlib.Core.Bool.{Bool, true, cond, _&&_}
+use Prim.Native.Nat.{ℕ, _+_, _*_}
+use mathlib.Core.Bool.{Bool, true, _&&_}
 use mathlib.Core.List.{List, [], _∷_}
 use lib.Dec.{eqb, ltb}
 use lib.ListN.{length}
 use Rattle.words.specs.Block.{part}
 use Rattle.words.specs.Bytes.{number}
 use Rattle.words.specs.Digits.{tab}
+use Rattle.words.specs.Search.{placeOf}
 
 -- "A key book is a count of two bytes, little-endian,"
 unfoldable pub count : List ℕ → ℕ
@@ -34,11 +34,6 @@ rising (a ∷ b ∷ s) = ltb a b && rising (b ∷ s)
 -- "It is well formed when its length is 2 + 18·count and class numbers strictly rise."
 unfoldable pub wellFormed : List ℕ → Bool
 wellFormed book = eqb (length book) (2 + 18 * count book) && rising (classes book)
-
--- the place of the first number that is c; where none is, how many there are
-unfoldable pub placeOf : ℕ → List ℕ → ℕ
-placeOf c [] = 0
-placeOf c (a ∷ s) = cond (eqb a c) 0 (suc (placeOf c s))
 
 -- "an entry for the class": which it is, and is there one
 abbrev pub entry : ℕ → List ℕ → ℕ

@@ -3,12 +3,11 @@ ghost use mathlib.Core.Path.{_≡_};
 ghost use mathlib.Core.Bool.{cond};
 ghost use Prim.Native.Nat.{_+_, _*_, _≤_};
 ghost use lib.Dec.{eqb};
-ghost use lib.ListN.{getD};
-ghost use Rattle.words.specs.Block.{part};
-ghost use Rattle.words.specs.Bytes.{number};
-ghost use Rattle.words.specs.Refuse.{answered};
-ghost use Rattle.books.specs.Books.{class, keyPlace, wellFormed, entry, holds};
-ghost use Rattle.books.specs.Entry.{nowhere, finding, lent, handedBack};
+ghost use Rattle.words.specs.Lent.{lent};
+ghost use Rattle.answers.specs.Answers.{answered};
+ghost use Rattle.books.specs.Books.{count, class, keyPlace, wellFormed, entry, holds};
+ghost use Rattle.books.specs.Entry.{nowhere, finding, Finding, HandedBack};
+use answers::row;
 
 // Where a key lies: 0 or the refusal, the book (0 this term's, 1 last term's) and the place in it.
 #[repr(C)]
@@ -28,7 +27,7 @@ pub fn number(this: &[u8], last: &[u8], class: u16) -> u32
 
 // The key's 16 bytes where they lie in the book, or an empty part.
 pub fn part<'a>(this: &'a [u8], last: &'a [u8], class: u16) -> &'a [u8]
-    ensures { λ r. ⌜ lent r ≡ handedBack (lent (this .entry)) (lent (last .entry)) class ⌝ }
+    ensures { λ r. ⌜ HandedBack r (this .entry) (last .entry) class ⌝ }
 {
     let f = find(this, last, class);
     let book = book_of(f.book, this, last);
@@ -51,13 +50,11 @@ fn length_of(number: u32) -> usize
 
 // Both books are judged before either is searched.
 pub fn find(this: &[u8], last: &[u8], class: u16) -> Found
-    ensures { λ r. ⌜ answered (r .number) (record { book = r .book; at = r .at }) ≡ finding (now (this .entry)) (now (last .entry)) class ⌝ }
+    ensures { λ r. ⌜ Finding (r .number) (now (this .entry)) (now (last .entry)) class (r .book) (r .at) ⌝ }
 {
-    if !well_formed(this) {
-        return nowhere(10);
-    }
-    if !well_formed(last) {
-        return nowhere(10);
+    let refused = row(!well_formed(this), 10, row(!well_formed(last), 10, 0));
+    if refused != 0 {
+        return nowhere(refused);
     }
     let f = key_in(0, this, class);
     if f.number == 0 {
@@ -72,7 +69,7 @@ fn key_in(which: u32, book: &[u8], class: u16) -> Found
         ≡ cond (holds class (now (book .entry))) (answered 0 (record { book = which; at = keyPlace (entry class (now (book .entry))) })) (answered 11 nowhere) ⌝ }
 {
     let i = entry_of(book, class);
-    if i < number_at(book, 0) {
+    if i < count_of(book) {
         return Found {
             number: 0,
             book: which,
@@ -95,7 +92,7 @@ fn nowhere(number: u32) -> Found
 fn well_formed(book: &[u8]) -> bool
     ensures { λ r. ⌜ r ≡ wellFormed (now (book .entry)) ⌝ }
 {
-    let n = number_at(book, 0);
+    let n = count_of(book);
     if book.len() != 2 + 18 * n {
         return false;
     }
@@ -113,10 +110,10 @@ fn well_formed(book: &[u8]) -> bool
 fn entry_of(book: &[u8], class: u16) -> usize
     ensures { λ r. ⌜ (r ≡ entry class (now (book .entry))) × (r ≤ 65535) ⌝ }
 {
-    let n = number_at(book, 0);
+    let n = count_of(book);
     let mut i: usize = 0;
     while i < n {
-        if class_at(book, i) == class as usize {
+        if class_at(book, i) == class {
             return i;
         }
         i += 1;
@@ -124,28 +121,15 @@ fn entry_of(book: &[u8], class: u16) -> usize
     i
 }
 
-fn class_at(book: &[u8], i: usize) -> usize
+fn count_of(book: &[u8]) -> usize
+    ensures { λ r. ⌜ (r ≡ count (now (book .entry))) × (r ≤ 65535) ⌝ }
+{
+    words::two(book, 0) as usize
+}
+
+fn class_at(book: &[u8], i: usize) -> u16
     requires { ⌜ i ≤ 65535 ⌝ }
     ensures { λ r. ⌜ r ≡ class (now (book .entry)) i ⌝ }
 {
-    number_at(book, 2 + 18 * i)
-}
-
-// The number of two bytes; no place in a book lies further on.
-fn number_at(book: &[u8], at: usize) -> usize
-    requires { ⌜ at ≤ 2 + 18 * 65535 ⌝ }
-    ensures { λ r. ⌜ (r ≡ number (part (now (book .entry)) at 2)) × (r ≤ 65535) ⌝ }
-{
-    byte_at(book, at + 1) * 256 + byte_at(book, at)
-}
-
-// A byte; past the end 0.
-fn byte_at(book: &[u8], at: usize) -> usize
-    ensures { λ r. ⌜ (r ≡ getD (now (book .entry)) at 0) × (r ≤ 255) ⌝ }
-{
-    if at < book.len() {
-        book[at] as usize
-    } else {
-        0
-    }
+    words::two(book, 2 + 18 * i)
 }

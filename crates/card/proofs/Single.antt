@@ -1,15 +1,13 @@
 -- Each public function's promise allows one result.
--- Assumes nothing.
 use mathlib.Core.Path.{_≡_}
 use mathlib.Core.List.{List}
 use Prim.Native.Nat.{ℕ}
-use Rattle.words.specs.Refuse.{answered}
-use Rattle.words.proofs.Refusals.{same-answer}
-use Rattle.card.specs.Card.{sealing, opening}
+use Rattle.answers.proofs.Answers.{same-answer}
+use Rattle.hyena.specs.Entry.{Inputs}
+use Rattle.card.specs.Card.{Sealing, Opening}
 
-pub seal-single : (key nonce ad text room : List ℕ) {m n : ℕ} {a b : List ℕ} → answered m a ≡ sealing key nonce ad text room → answered n b ≡ sealing key nonce ad text room
-    → (m ≡ n) × (a ≡ b)
-seal-single key nonce ad text room = same-answer
+pub seal-single : (i : Inputs) (room : List ℕ) {m n : ℕ} {a b : List ℕ} → Sealing m i room a → Sealing n i room b → (m ≡ n) × (a ≡ b)
+seal-single i room = same-answer
 
-pub open-single : (key ad card room : List ℕ) {m n : ℕ} {a b : List ℕ} → answered m a ≡ opening key ad card room → answered n b ≡ opening key ad card room → (m ≡ n) × (a ≡ b)
+pub open-single : (key ad card room : List ℕ) {m n : ℕ} {a b : List ℕ} → Opening m key ad card room a → Opening n key ad card room b → (m ≡ n) × (a ≡ b)
 open-single key ad card room = same-answer

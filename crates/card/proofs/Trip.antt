@@ -1,5 +1,4 @@
 -- A card that was sealed opens: its text comes back.
--- Assumes nothing.
 use mathlib.Core.Path.{_≡_, sym, ap, ap₂, _∙_}
 use mathlib.Core.Bool.{false, not}
 use mathlib.Core.List.{List, _++_, append-assoc}
@@ -7,30 +6,31 @@ use Prim.Native.Nat.{ℕ, _+_, _<_, _≤_}
 use native.Mathlib.Omega.{arith}
 use lib.ListN.{length, take, drop, replicate, length-append}
 use lib.Seq.{take-at, drop-at}
-use borrow.Author.Tests.{eqb-true, not-false, ltb-false, eq-eqb, le-ltb}
+use borrow.Author.Tests.{eq-eqb, le-ltb}
 use Rattle.words.specs.Bytes.{number, bytes, over}
-use Rattle.words.specs.Refuse.{Answer, answered}
+use Rattle.answers.specs.Answers.{Answer, answered}
 use Rattle.words.proofs.Bytes.{length-bytes, number-bytes}
 use Rattle.words.proofs.Over.{take-over}
-use Rattle.words.proofs.Refusals.{Clear, refuse-clear, answer-done}
+use Rattle.answers.proofs.Answers.{Clear, refuse-clear, answer-done}
 use Rattle.hyena.specs.Entry as hyena
-use Rattle.hyena.proofs.Trip.{length-outputs}
-use Rattle.hyena.proofs.Demands.{opening-sealing}
+use Rattle.hyena.specs.Entry.{inputs, Inputs, outputOf, tagOf, gift}
+use Rattle.mode.proofs.Trip.{length-outputs}
+use Rattle.hyena.proofs.Demands.{gift-demands}
 use Rattle.card.specs.Card.{cardOf, sealRows, sealing, lengthIn, nonceIn, ciphertextIn, tagIn, openRows, opening}
-use Rattle.card.proofs.Cards.{sealed}
+use Rattle.card.proofs.Cards.{sealed, sealable}
 
 module _ (key nonce ad text : List ℕ) (lk : length key ≡ 16) (ln : length nonce ≡ 12) (la : length ad ≤ 65536) (lt : length text ≤ 65535) where
   abbrev ct : List ℕ
-  ct = hyena.ciphertextOf key nonce ad text
+  ct = outputOf gift false (inputs key nonce ad text)
 
   abbrev tag : List ℕ
-  tag = hyena.tagOf key nonce ad text
+  tag = tagOf gift false (inputs key nonce ad text)
 
   abbrev card : List ℕ
-  card = cardOf key nonce ad text
+  card = cardOf (inputs key nonce ad text)
 
   length-ct : length ct ≡ length text
-  length-ct = length-outputs (hyena.gift key) nonce ad false text
+  length-ct = length-outputs (gift key) false nonce ad text
 
   length-tag : length tag ≡ 16
   length-tag = length-bytes 16 _
@@ -87,19 +87,19 @@ module _ (key nonce ad text : List ℕ) (lk : length key ≡ 16) (ln : length no
     opened : opening key ad card room ≡ answered 0 (over text room)
     unfolding opening
     opened =
-        let e : hyena.sealing key nonce ad text text (replicate 16 0)
+        let e : hyena.sealing gift (inputs key nonce ad text) text (replicate 16 0)
         ≡ answered 0 (record { room = over ct text; tag = tag }) = sealed key nonce ad text lk ln la lt text (omega arith) in
-        let o : hyena.opening key nonce ad (take (length text) (over ct text)) tag room ≡ answered 0 (over text room) =
-        ap (λ (a : Answer hyena.Sealed). hyena.opening key nonce ad (take (length text) (a .left .room)) (a .left .tag) room) (sym e)
-        ∙ opening-sealing key nonce ad text text (replicate 16 0) room fits (ap (λ (a : Answer hyena.Sealed). a .number) e) in
+        let o : hyena.opening gift (inputs key nonce ad (take (length text) (over ct text))) tag room ≡ answered 0 (over text room) =
+        ap (λ (a : Answer hyena.Sealed). hyena.opening gift (inputs key nonce ad (take (length text) (a .left .room))) (a .left .tag) room) (sym e)
+        ∙ gift-demands .opens-sealed (inputs key nonce ad text) text (replicate 16 0) room (ap (λ (a : Answer hyena.Sealed). a .number) e) fits in
         let t : take (length text) (over ct text) ≡ ct = ap (λ (n : ℕ). take n (over ct text)) (sym length-ct) ∙ take-over ct text in
         refuse-clear room _ (openRows (length key) (length ad) (length card) (lengthIn card) (length room)) clear
-        ∙ rw (nonce-in, ciphertext-in, tag-in) (ap (λ (c : List ℕ). hyena.opening key nonce ad c tag room) (sym t) ∙ o)
+        ∙ rw (nonce-in, ciphertext-in, tag-in) (ap (λ (c : List ℕ). hyena.opening gift (inputs key nonce ad c) tag room) (sym t) ∙ o)
 
 -- whatever sealing did not refuse, in room for the text
-pub opening-sealed : (key nonce ad text room room′ : List ℕ) → length text ≤ length room′ → sealing key nonce ad text room .number ≡ 0
-    → opening key ad (cardOf key nonce ad text) room′ ≡ answered 0 (over text room′)
+pub opening-sealed : (i : Inputs) (room room′ : List ℕ) → length (i .text) ≤ length room′ → sealing i room .number ≡ 0
+    → opening (i .key) (i .ad) (cardOf i) room′ ≡ answered 0 (over (i .text) room′)
 unfolding sealing
-opening-sealed key nonce ad text room room′ fits e =
-    let c = answer-done _ _ (sealRows (length key) (length nonce) (length ad) (length text) (length room)) tt e .0 in
-    opened key nonce ad text (eqb-true _ _ (not-false _ (c .0))) (eqb-true _ _ (not-false _ (c .1 .0))) (ltb-false _ _ (c .1 .1 .0)) (ltb-false _ _ (c .1 .1 .1 .0)) room′ fits
+opening-sealed i room room′ fits e =
+    let l = sealable _ _ _ _ _ (answer-done _ _ (sealRows (length (i .key)) (length (i .nonce)) (length (i .ad)) (length (i .text)) (length room)) tt e .0) in
+    opened (i .key) (i .nonce) (i .ad) (i .text) (l .key-16) (l .nonce-12) (l .ad-most) (l .text-most) room′ fits

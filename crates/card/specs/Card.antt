@@ -1,17 +1,18 @@
 -- A card, as a shelf of K11 holds it: "a 12-byte nonce, a two-byte little-endian length, the ciphertext and its tag".
--- Assumes nothing.
 use Prim.Native.Nat.{ℕ, _+_}
-use mathlib.Core.Bool.{not}
+use mathlib.Core.Path.{_≡_}
+use mathlib.Core.Bool.{false, not}
 use mathlib.Core.List.{List, [], _∷_, _++_}
 use lib.Dec.{eqb, ltb}
 use lib.ListN.{length, drop}
 use Rattle.words.specs.Block.{part}
 use Rattle.words.specs.Bytes.{number, bytes, over}
-use Rattle.words.specs.Refuse.{Row, Answer, refuse, answer}
+use Rattle.answers.specs.Answers.{Row, Answer, answered, refuse, answer}
 use Rattle.hyena.specs.Entry as hyena
+use Rattle.hyena.specs.Entry.{Inputs, inputs, outputOf, tagOf, gift}
 
-unfoldable pub cardOf : List ℕ → List ℕ → List ℕ → List ℕ → List ℕ
-cardOf key nonce ad text = nonce ++ bytes 2 (length text) ++ hyena.ciphertextOf key nonce ad text ++ hyena.tagOf key nonce ad text
+unfoldable pub cardOf : Inputs → List ℕ
+cardOf i = i .nonce ++ bytes 2 (length (i .text)) ++ outputOf gift false i ++ tagOf gift false i
 
 -- ---- sealing
 
@@ -26,13 +27,12 @@ sealRows key nonce ad text room =
     ∷ record { applies = ltb room (text + 30); number = 6 }
     ∷ []
 
-unfoldable pub sealRefusal : ℕ → ℕ → ℕ → ℕ → ℕ → Answer ℕ
-sealRefusal key nonce ad text room = answer (sealRows key nonce ad text room) 0 0
-
 -- the number that is answered, and what the room holds then
-unfoldable pub sealing : List ℕ → List ℕ → List ℕ → List ℕ → List ℕ → Answer (List ℕ)
-sealing key nonce ad text room =
-    answer (sealRows (length key) (length nonce) (length ad) (length text) (length room)) (over (cardOf key nonce ad text) room) room
+unfoldable pub sealing : Inputs → List ℕ → Answer (List ℕ)
+sealing i room = answer (sealRows (length (i .key)) (length (i .nonce)) (length (i .ad)) (length (i .text)) (length room)) (over (cardOf i) room) room
+
+abbrev pub Sealing : ℕ → Inputs → List ℕ → List ℕ → Type 0
+Sealing r i room room′ = answered r room′ ≡ sealing i room
 
 -- ---- opening
 
@@ -59,11 +59,11 @@ openRows key ad card text room =
     ∷ record { applies = ltb (text + 30) card; number = 15 }
     ∷ []
 
-unfoldable pub openRefusal : ℕ → ℕ → ℕ → ℕ → ℕ → Answer ℕ
-openRefusal key ad card text room = answer (openRows key ad card text room) 0 0
-
 -- a card that is whole is opened: 7, or its text
 unfoldable pub opening : List ℕ → List ℕ → List ℕ → List ℕ → Answer (List ℕ)
 opening key ad card room =
     refuse (openRows (length key) (length ad) (length card) (lengthIn card) (length room)) room
-    (hyena.opening key (nonceIn card) ad (ciphertextIn card) (tagIn card) room)
+    (hyena.opening gift (inputs key (nonceIn card) ad (ciphertextIn card)) (tagIn card) room)
+
+abbrev pub Opening : ℕ → List ℕ → List ℕ → List ℕ → List ℕ → List ℕ → Type 0
+Opening r key ad card room room′ = answered r room′ ≡ opening key ad card room

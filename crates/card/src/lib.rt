@@ -1,16 +1,18 @@
 // A card as shelves hold it: "a 12-byte nonce, a two-byte little-endian length, the ciphertext and its tag".
 ghost use mathlib.Core.Path.{_≡_};
-ghost use Prim.Native.Nat.{_+_, _-_, _≤_};
+ghost use Prim.Native.Nat.{_+_, _≤_};
 ghost use lib.ListN.{length};
 ghost use Rattle.words.specs.Bytes.{over};
-ghost use Rattle.words.specs.Refuse.{answered};
-ghost use Rattle.card.specs.Card.{cardOf, lengthIn, sealing, opening, sealRefusal, openRefusal};
+ghost use lib.Dec.{ltb};
+ghost use Rattle.answers.specs.Answers.{numberOf};
+ghost use Rattle.hyena.specs.Entry.{inputs};
+ghost use Rattle.card.specs.Card.{cardOf, sealRows, Sealing, lengthIn, openRows, Opening};
+use answers::row;
 use words::Block;
 
 // Writes the card of text to room. Answers 0, or the refusal.
 pub fn seal(key: &[u8], nonce: &[u8], ad: &[u8], text: &[u8], room: &mut [u8]) -> u32
-    ensures { λ r. ⌜ answered r (now (room .exit))
-        ≡ sealing (now (key .entry)) (now (nonce .entry)) (now (ad .entry)) (now (text .entry)) (now (room .entry)) ⌝ }
+    ensures { λ r. ⌜ Sealing r (inputs (now (key .entry)) (now (nonce .entry)) (now (ad .entry)) (now (text .entry))) (now (room .entry)) (now (room .exit)) ⌝ }
 {
     let refused = seal_refusal(key.len(), nonce.len(), ad.len(), text.len(), room.len());
     if refused != 0 {
@@ -22,8 +24,7 @@ pub fn seal(key: &[u8], nonce: &[u8], ad: &[u8], text: &[u8], room: &mut [u8]) -
 
 // Writes the text of a card to room if its tag is right, and zeros otherwise. Answers 0, or the refusal.
 pub fn open(key: &[u8], ad: &[u8], card: &[u8], room: &mut [u8]) -> u32
-    ensures { λ r. ⌜ answered r (now (room .exit))
-        ≡ opening (now (key .entry)) (now (ad .entry)) (now (card .entry)) (now (room .entry)) ⌝ }
+    ensures { λ r. ⌜ Opening r (now (key .entry)) (now (ad .entry)) (now (card .entry)) (now (room .entry)) (now (room .exit)) ⌝ }
 {
     let n = length_in(card);
     let refused = open_refusal(key.len(), ad.len(), card.len(), n, room.len());
@@ -38,57 +39,42 @@ pub fn open(key: &[u8], ad: &[u8], card: &[u8], room: &mut [u8]) -> u32
 fn length_in(card: &[u8]) -> usize
     ensures { λ r. ⌜ (r ≡ lengthIn (now (card .entry))) × (r ≤ 65535) ⌝ }
 {
-    let n = words::load(card, 12, 2);
-    (n.lo % 65536) as usize
+    words::two(card, 12) as usize
 }
 
 fn seal_refusal(key: usize, nonce: usize, ad: usize, text: usize, room: usize) -> u32
-    ensures { λ r. ⌜ answered r 0 ≡ sealRefusal key nonce ad text room ⌝ }
+    ensures { λ r. ⌜ r ≡ numberOf (sealRows key nonce ad text room) ⌝ }
 {
-    if key != 16 {
-        return 1;
-    }
-    if nonce != 12 {
-        return 2;
-    }
-    if ad > 65536 {
-        return 3;
-    }
-    if text > 65535 {
-        return 4;
-    }
-    if room < text + 30 {
-        return 6;
-    }
-    0
+    let six = row(too_short(room, text), 6, 0);
+    let four = row(text > 65535, 4, six);
+    let three = row(ad > 65536, 3, four);
+    let two = row(nonce != 12, 2, three);
+    row(key != 16, 1, two)
+}
+
+// Whether a room is shorter than a text and the 30 bytes around it.
+fn too_short(room: usize, text: usize) -> bool
+    ensures { λ r. ⌜ r ≡ ltb room (text + 30) ⌝ }
+{
+    if room < 30 { true } else { room - 30 < text }
 }
 
 fn open_refusal(key: usize, ad: usize, card: usize, text: usize, room: usize) -> u32
     requires { ⌜ text ≤ 65535 ⌝ }
-    ensures { λ r. ⌜ answered r 0 ≡ openRefusal key ad card text room ⌝ }
+    ensures { λ r. ⌜ r ≡ numberOf (openRows key ad card text room) ⌝ }
 {
-    if key != 16 {
-        return 1;
-    }
-    if ad > 65536 {
-        return 3;
-    }
-    if room < text {
-        return 6;
-    }
-    if card < text + 30 {
-        return 12;
-    }
-    if text + 30 < card {
-        return 15;
-    }
-    0
+    let whole = text + 30;
+    let fifteen = row(whole < card, 15, 0);
+    let twelve = row(card < whole, 12, fifteen);
+    let six = row(room < text, 6, twelve);
+    let three = row(ad > 65536, 3, six);
+    row(key != 16, 1, three)
 }
 
 // The four parts, one behind the other.
 fn write(key: &[u8], nonce: &[u8], ad: &[u8], text: &[u8], room: &mut [u8])
     requires { ⌜ (length (now key) ≡ 16) × (length (now nonce) ≡ 12) × (length (now ad) ≤ 65536) × (length (now text) ≤ 65535) × (length (now text) + 30 ≤ length (now room)) ⌝ }
-    ensures { λ _. ⌜ now (room .exit) ≡ over (cardOf (now (key .entry)) (now (nonce .entry)) (now (ad .entry)) (now (text .entry))) (now (room .entry)) ⌝ }
+    ensures { λ _. ⌜ now (room .exit) ≡ over (cardOf (inputs (now (key .entry)) (now (nonce .entry)) (now (ad .entry)) (now (text .entry)))) (now (room .entry)) ⌝ }
 {
     let n = text.len();
     let mut tag = [0u8; 16];

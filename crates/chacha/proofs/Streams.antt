@@ -1,5 +1,4 @@
 -- The key stream: a block's turn, adding it twice, and cutting it after whole blocks.
--- Assumes nothing.
 use mathlib.Core.Path.{_≡_, refl, sym, ap, ap₂, _∙_}
 use mathlib.Core.List.{List, _++_, append-assoc}
 use Prim.Native.Nat.{ℕ, zero, suc, _+_, _*_, _^_, _≤_}
@@ -11,11 +10,11 @@ use lib.Seq.{take-all}
 use borrow.Author.Tests.{eqb-true, not-false, ltb-false, eq-eqb, le-ltb}
 use Rattle.words.specs.Block.{part}
 use Rattle.words.specs.Bytes.{plus, plusAt}
-use Rattle.words.specs.Refuse.{answered}
-use Rattle.words.proofs.Refusals.{Clear, answer-done, undone}
+use Rattle.answers.specs.Answers.{answered}
+use Rattle.answers.proofs.Answers.{Clear, answer-done, undone}
 use Rattle.words.proofs.Plus.{length-plus, plus-twice, plus-append, plusAt-first, plusAt-none, plusAt-append}
 use Rattle.chacha.specs.ChaCha.{block, blocks, startState, keyStream, stream}
-use Rattle.chacha.specs.Entry.{refusals, streaming}
+use Rattle.chacha.specs.Entry.{rows, streaming}
 use Rattle.chacha.proofs.Rounds.{length-block}
 
 -- ---- the loop
@@ -82,38 +81,39 @@ pub streaming-twice : (key nonce text : List ℕ) (counter : ℕ)
     → streaming key nonce counter (streaming key nonce counter text .left) ≡ answered (streaming key nonce counter text .number) text
 unfolding streaming
 streaming-twice key nonce text counter =
-    undone (refusals key nonce counter) (stream key nonce counter) (stream key nonce counter) text
+    undone (λ t. rows (length key) (length nonce) counter (length t)) (stream key nonce counter) (stream key nonce counter) text
     (λ c. rw (length-stream key nonce text counter)) (λ c. stream-twice key nonce text counter)
 
--- where nothing is refused
+-- what is not refused
+pub record Allowed (key nonce start text : ℕ) : Type 0 where
+  pub key-32 : key ≡ 32
+  pub nonce-12 : nonce ≡ 12
+  pub text-most : text ≤ 1048576
+  pub blocks-most : start + blocks text ≤ 2 ^ 32
+
+pub allowed : (key nonce start text : ℕ) → Clear (rows key nonce start text) → Allowed key nonce start text
+allowed key nonce start text (k, (n, (t, (b, none)))) =
+    record { key-32 = eqb-true _ _ (not-false _ k); nonce-12 = eqb-true _ _ (not-false _ n); text-most = ltb-false _ _ t; blocks-most = ltb-false _ _ b }
 
 pub streaming-done : (key nonce text : List ℕ) (counter : ℕ) → length key ≡ 32 → length nonce ≡ 12 → length text ≤ 1048576 → counter + blocks (length text) ≤ 2 ^ 32
     → streaming key nonce counter text ≡ answered 0 (stream key nonce counter text)
 unfolding streaming
 streaming-done key nonce text counter ek en ht hb = simp (eq-eqb _ _ ek, eq-eqb _ _ en, le-ltb _ _ ht, le-ltb _ _ hb)
 
-pub streamed : (key nonce text : List ℕ) (counter : ℕ) {out : List ℕ} → out ≡ stream key nonce counter text
-    → length key ≡ 32 → length nonce ≡ 12 → length text ≤ 1048576 → counter + blocks (length text) ≤ 2 ^ 32 → answered 0 out ≡ streaming key nonce counter text
-streamed key nonce text counter e ek en ht hb = ap (answered 0) e ∙ sym (streaming-done key nonce text counter ek en ht hb)
-
-clear : (key nonce text : List ℕ) (counter : ℕ) → streaming key nonce counter text .number ≡ 0 → Clear (refusals key nonce counter text)
-unfolding streaming
-clear key nonce text counter e = answer-done (stream key nonce counter text) text (refusals key nonce counter text) tt e .0
-
 -- a call that is done, cut after m whole blocks: both calls are done, and they leave the same bytes
 pub streaming-cut : (key nonce a b : List ℕ) (counter m : ℕ) → length a ≡ 64 * m → streaming key nonce counter (a ++ b) .number ≡ 0
     → (streaming key nonce counter a .number ≡ 0) × (streaming key nonce (counter + m) b .number ≡ 0)
     × (streaming key nonce counter (a ++ b) .left ≡ streaming key nonce counter a .left ++ streaming key nonce (counter + m) b .left)
+unfolding streaming
 streaming-cut key nonce a b counter m e done =
-    let c = clear key nonce (a ++ b) counter done in
-    let ek : length key ≡ 32 = eqb-true _ _ (not-false _ (c .0)) in
-    let en : length nonce ≡ 12 = eqb-true _ _ (not-false _ (c .1 .0)) in
-    let ht : length (a ++ b) ≤ 1048576 = ltb-false _ _ (c .1 .1 .0) in
-    let hb : counter + blocks (length (a ++ b)) ≤ 2 ^ 32 = ltb-false _ _ (c .1 .1 .1 .0) in
+    let d = answer-done (stream key nonce counter (a ++ b)) (a ++ b) (rows (length key) (length nonce) counter (length (a ++ b))) tt done in
+    let k = allowed (length key) (length nonce) counter (length (a ++ b)) (d .0) in
     let l = length-append a b in
-    let whole = streaming-done key nonce (a ++ b) counter ek en ht hb in
-    let first = streaming-done key nonce a counter ek en (omega (arith, ht, l)) (omega (arith, hb, l)) in
-    let second = streaming-done key nonce b (counter + m) ek en (omega (arith, ht, l)) (omega (arith, hb, l, e)) in (
+    let ht = k .text-most in
+    let hb = k .blocks-most in
+    let whole = streaming-done key nonce (a ++ b) counter (k .key-32) (k .nonce-12) ht hb in
+    let first = streaming-done key nonce a counter (k .key-32) (k .nonce-12) (omega (arith, ht, l)) (omega (arith, hb, l)) in
+    let second = streaming-done key nonce b (counter + m) (k .key-32) (k .nonce-12) (omega (arith, ht, l)) (omega (arith, hb, l, e)) in (
       ap (λ r. r .number) first,
       ap (λ r. r .number) second,
       ap (λ r. r .left) whole ∙ stream-cut key nonce a b counter m e ∙ sym (ap₂ _++_ (ap (λ r. r .left) first) (ap (λ r. r .left) second)),

@@ -1,4 +1,5 @@
 // ChaCha20 as a key stream, added where the text lies.
+use answers::row;
 use std::num::wrapping_add_u32;
 use words::Block;
 ghost use mathlib.Core.Path.{_≡_};
@@ -7,28 +8,40 @@ ghost use lib.ListN.{length};
 ghost use Rattle.words.specs.Block.{part};
 ghost use Rattle.words.specs.Bytes.{number};
 ghost use Rattle.words.specs.Digits.{rotl};
-ghost use Rattle.words.specs.Refuse.{answered};
+ghost use Rattle.answers.specs.Answers.{numberOf};
 ghost use Rattle.chacha.specs.ChaCha.{quarter, doubleRound, rounds, startState, blockFrom, blocks, stream};
-ghost use Rattle.chacha.specs.Entry.{streaming};
+ghost use Rattle.chacha.specs.Entry.{rows, Streaming};
 
 // Adds the key stream, from block `start` on, to text in place. Answers 0, or the refusal.
 pub fn stream(key: &[u8], nonce: &[u8], start: u32, text: &mut [u8]) -> u32
-    ensures { λ r. ⌜ answered r (now (text .exit)) ≡ streaming (now (key .entry)) (now (nonce .entry)) start (now (text .entry)) ⌝ }
+    ensures { λ r. ⌜ Streaming r (now (key .entry)) (now (nonce .entry)) start (now (text .entry)) (now (text .exit)) ⌝ }
 {
-    if key.len() != 32 {
-        return 1;
-    }
-    if nonce.len() != 12 {
-        return 2;
-    }
-    if text.len() > 1048576 {
-        return 4;
-    }
-    if start as u64 + (text.len() as u64 + 63) / 64 > 4294967296 {
-        return 8;
+    let refused = refusal(key.len(), nonce.len(), start, text.len());
+    if refused != 0 {
+        return refused;
     }
     stream_from(key, nonce, start as u64, text);
     0
+}
+
+// The refusal that the lengths and the start call for, or 0: the rows from the last up.
+fn refusal(key: usize, nonce: usize, start: u32, text: usize) -> u32
+    ensures { λ r. ⌜ r ≡ numberOf (rows key nonce start text) ⌝ }
+{
+    let eight = row(start as u64 + blocks_in(text) > 4294967296, 8, 0);
+    let four = row(text > 1048576, 4, eight);
+    let two = row(nonce != 12, 2, four);
+    row(key != 32, 1, two)
+}
+
+// How many blocks of 64 bytes hold n bytes.
+fn blocks_in(n: usize) -> u64
+    ensures { λ r. ⌜ (r ≡ blocks n) × (r ≤ 2 ^ 60) ⌝ }
+{
+    if n % 64 == 0 {
+        return (n / 64) as u64;
+    }
+    (n / 64 + 1) as u64
 }
 
 // The same where nothing is refused. Answers the counter after the last block, which may be 2^32.

@@ -1,12 +1,12 @@
 -- Each public function's promise allows one result.
--- Assumes nothing.
-use mathlib.Core.Path.{_≡_}
-use mathlib.Core.List.{List}
+use mathlib.Core.Path.{_≡_, refl}
+use mathlib.Core.List.{List, []}
 use Prim.Native.Nat.{ℕ}
-use Rattle.words.specs.Refuse.{answered}
-use Rattle.words.proofs.Refusals.{same, same-answer}
+use Rattle.answers.specs.Answers.{applying, smallest}
+use Rattle.answers.proofs.Answers.{same-answer, least-answered}
+use Rattle.words.proofs.Single.{same}
 use Rattle.drawer.specs.declared.Drawer.{Drawer}
-use Rattle.drawer.specs.Drawer.{Handed, started, nonce, drawing, ivDrawing}
+use Rattle.drawer.specs.Drawer.{Use, forNonce, forIv, started, nonce, counts, rows, Handed, drawing, Drawing}
 
 pub start-single : (reader count : ℕ) {a b : Drawer} → a ≡ started reader count → b ≡ started reader count → a ≡ b
 start-single reader count = same
@@ -14,8 +14,15 @@ start-single reader count = same
 pub state-single : (d : Drawer) {a b : List ℕ} → a ≡ nonce d → b ≡ nonce d → a ≡ b
 state-single d = same
 
-pub draw-single : (d : Drawer) {m n : ℕ} {a b : Handed} → answered m a ≡ drawing d → answered n b ≡ drawing d → (m ≡ n) × (a ≡ b)
+pub draw-single : (d : Drawer) {m n : ℕ} {a b : List ℕ} {e f : Drawer} → Drawing forNonce m d a e → Drawing forNonce n d b f
+    → (m ≡ n) × (_≡_ {A = Handed} (record { bytes = a; next = e }) (record { bytes = b; next = f }))
 draw-single d = same-answer
 
-pub iv-single : (d : Drawer) {m n : ℕ} {a b : Handed} → answered m a ≡ ivDrawing d → answered n b ≡ ivDrawing d → (m ≡ n) × (a ≡ b)
+pub iv-single : (d : Drawer) {m n : ℕ} {a b : List ℕ} {e f : Drawer} → Drawing forIv m d a e → Drawing forIv n d b f
+    → (m ≡ n) × (_≡_ {A = Handed} (record { bytes = a; next = e }) (record { bytes = b; next = f }))
 iv-single d = same-answer
+
+-- the number is the smallest that applies
+pub drawing-least : (u : Use) (d : Drawer) → drawing u d .number ≡ smallest (applying (rows (counts u) d))
+unfolding drawing
+drawing-least u d = least-answered _ _ [] refl (rows (counts u) d) tt

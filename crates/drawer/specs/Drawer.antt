@@ -1,11 +1,11 @@
 -- The drawer of nonces, and what its entry points answer.
--- Assumes nothing.
+use mathlib.Core.Path.{_≡_}
 use Prim.Native.Nat.{ℕ, _+_, _-_, _^_}
 use mathlib.Core.List.{List, [], _∷_, _++_}
-use lib.Dec.{eqb}
-use lib.ListN.{replicate}
+use lib.Dec.{ltb}
+use lib.ListN.{length, replicate}
 use Rattle.words.specs.Bytes.{bytes}
-use Rattle.words.specs.Refuse.{Row, Answer, answered, answer}
+use Rattle.answers.specs.Answers.{Row, Answer, answered, answer}
 use Rattle.drawer.specs.declared.Drawer.{Drawer}
 
 -- "A drawer is a reader number (32 bits) and a count (64 bits), both given at its start."
@@ -16,13 +16,33 @@ started reader count = record { reader = reader; count = count }
 unfoldable pub nonce : Drawer → List ℕ
 nonce d = bytes 4 (d .reader) ++ bytes 8 (d .count)
 
--- "the count grows by one."
-abbrev pub moved : Drawer → Drawer
-moved d = started (d .reader) (d .count + 1)
+-- how many counts are left: "At count 2^64−1 a draw is refused"
+abbrev pub remaining : Drawer → ℕ
+remaining d = 2 ^ 64 - 1 - d .count
 
--- 9 "drawer spent": "At count 2^64−1 a draw is refused with 9;"
-abbrev pub refusals : Drawer → List Row
-refusals d = record { applies = eqb (d .count) (2 ^ 64 - 1); number = 9 } ∷ []
+-- ---- what is drawn, by how many counts it takes
+
+pub data Use : Type 0 where
+  forNonce : Use
+  forIv : Use
+
+-- "the count grows by one." "An iv is one draw"
+abbrev pub counts : Use → ℕ
+counts forNonce = 1
+counts forIv = 1
+
+-- its bytes: an iv is its draw "written four times."
+abbrev pub written : Use → Drawer → List ℕ
+written forNonce d = nonce d
+written forIv d = nonce d ++ nonce d ++ nonce d ++ nonce d
+
+-- 9 "drawer spent": fewer counts are left than it takes, n
+abbrev pub rows : ℕ → Drawer → List Row
+rows n d = record { applies = ltb (remaining d) n; number = 9 } ∷ []
+
+-- the drawer that is handed back, n counts on
+abbrev pub moved : ℕ → Drawer → Drawer
+moved n d = started (d .reader) (d .count + n)
 
 -- the bytes that are answered, and the drawer that is handed back
 pub record Handed : Type 0 where
@@ -30,15 +50,11 @@ pub record Handed : Type 0 where
   pub next : Drawer
 
 -- what a draw answers; with 9 "drawer unchanged; the bytes answered are all 0"
-unfoldable pub drawing : Drawer → Answer Handed
-drawing d = answer (refusals d) (record { bytes = nonce d; next = moved d }) (record { bytes = replicate 12 0; next = d })
+unfoldable pub drawing : Use → Drawer → Answer Handed
+drawing u d =
+    answer (rows (counts u) d) (record { bytes = written u d; next = moved (counts u) d })
+    (record { bytes = replicate (length (written u d)) 0; next = d })
 
--- "An iv is one draw written four times."
-abbrev pub fourTimes : List ℕ → List ℕ
-fourTimes s = s ++ s ++ s ++ s
-
-abbrev pub writtenFourTimes : Answer Handed → Answer Handed
-writtenFourTimes a = answered (a .number) (record { bytes = fourTimes (a .left .bytes); next = a .left .next })
-
-unfoldable pub ivDrawing : Drawer → Answer Handed
-ivDrawing d = writtenFourTimes (drawing d)
+-- the promise: r, the bytes and the next drawer are answered
+abbrev pub Drawing : Use → ℕ → Drawer → List ℕ → Drawer → Type 0
+Drawing u r d bytes next = answered r (record { bytes = bytes; next = next }) ≡ drawing u d

@@ -1,8 +1,9 @@
 // The drawer of nonces: numbers that never repeat, for sealing and for wide blocks.
+use answers::row;
 use words::Block;
 ghost use mathlib.Core.Path.{_≡_};
-ghost use Rattle.words.specs.Refuse.{answered};
-ghost use Rattle.drawer.specs.Drawer.{started, nonce, drawing, ivDrawing};
+ghost use Rattle.answers.specs.Answers.{numberOf};
+ghost use Rattle.drawer.specs.Drawer.{forNonce, forIv, started, nonce, rows, Drawing};
 
 #[repr(C)]
 pub struct Drawer {
@@ -37,11 +38,12 @@ pub fn start(reader: u32, count: u64) -> Drawer
 
 // One number. Whoever goes on drawing from d, and not from the next drawer, draws the same number again.
 pub fn draw(d: Drawer) -> Drawn
-    ensures { λ r. ⌜ answered (r .number) (record { bytes = r .bytes; next = r .next }) ≡ drawing d ⌝ }
+    ensures { λ r. ⌜ Drawing forNonce (r .number) d (r .bytes) (r .next) ⌝ }
 {
-    if d.count == 18446744073709551615 {
+    let refused = refusal(1, d);
+    if refused != 0 {
         return Drawn {
-            number: 9,
+            number: refused,
             bytes: [0u8; 12],
             next: d,
         };
@@ -55,7 +57,7 @@ pub fn draw(d: Drawer) -> Drawn
 
 // An iv: one draw, written four times.
 pub fn iv(d: Drawer) -> DrawnIv
-    ensures { λ r. ⌜ answered (r .number) (record { bytes = r .bytes; next = r .next }) ≡ ivDrawing d ⌝ }
+    ensures { λ r. ⌜ Drawing forIv (r .number) d (r .bytes) (r .next) ⌝ }
 {
     let one = draw(d);
     let n = one.bytes;
@@ -70,6 +72,13 @@ pub fn iv(d: Drawer) -> DrawnIv
         bytes: bytes,
         next: next,
     }
+}
+
+// The refusal of a draw that takes n counts, or 0.
+fn refusal(n: u64, d: Drawer) -> u32
+    ensures { λ r. ⌜ r ≡ numberOf (rows n d) ⌝ }
+{
+    row(18446744073709551615 - d.count < n, 9, 0)
 }
 
 // The bytes of a drawer's two numbers.

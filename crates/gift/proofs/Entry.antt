@@ -1,22 +1,21 @@
 -- The entry points: what their steps leave, and that they undo each other on every input.
--- Assumes nothing.
 use mathlib.Core.Path.{_≡_, sym, ap, ap₂, _∙_, subst}
 use mathlib.Core.Bool.{Bool, true, false, not}
 use mathlib.Core.List.{List}
 use Prim.Native.Nat.{ℕ, _^_, _<_}
-use borrow.Author.Tests.{eqb-true, not-false, eq-eqb, ne-eqb}
+use borrow.Author.Tests.{eqb-true, not-false}
 use lib.ListN.{length}
 use Rattle.words.specs.declared.Block.{Block}
 use Rattle.words.specs.Block.{value, halves, loaded, stored}
 use Rattle.words.specs.Bytes.{Bytes, number, bytes}
-use Rattle.words.specs.Refuse.{answered}
+use Rattle.answers.specs.Answers.{answered}
 use Rattle.words.proofs.Blocks.{value-halves, value-is, loaded-all, stored-all}
 use Rattle.words.proofs.Bytes.{length-bytes, number-bytes, bytes-number, number-lt}
 use Rattle.words.proofs.Lists.{tab-at}
-use Rattle.words.proofs.Refusals.{Clear, undone}
+use Rattle.answers.proofs.Answers.{Clear, refuse-clear, undone}
 use Rattle.gift.specs.declared.Additions.{Additions}
 use Rattle.gift.specs.Gift.{added, forty, cipher, encipher, decipher}
-use Rattle.gift.specs.Entry.{additions, addition, enciphers, deciphers, refusals, crypting, enciphering, deciphering}
+use Rattle.gift.specs.Entry.{additions, addition, enciphers, deciphers, rows, crypting, enciphering, deciphering}
 use Rattle.gift.proofs.Inverse.{forty-same, cipher-lt, cipher-undone}
 
 -- ---- the additions, worked out, are those of the rounds
@@ -39,31 +38,28 @@ deciphers-is k x = forty-is true k x
 
 -- ---- what a call leaves
 
-module _ (back : Bool) (key block : List ℕ) where
-  pub refused-key : (length key ≡ 16 → ⊥) → answered 1 block ≡ crypting back key block
-  unfolding crypting
-  refused-key h = simp (ne-eqb _ _ h)
+-- the lengths that are not refused
+pub record Allowed (key block : ℕ) : Type 0 where
+  pub key-16 : key ≡ 16
+  pub block-16 : block ≡ 16
 
-  pub refused-block : length key ≡ 16 → (length block ≡ 16 → ⊥) → answered 4 block ≡ crypting back key block
-  unfolding crypting
-  refused-block hk h = simp (eq-eqb _ _ hk, ne-eqb _ _ h)
+pub allowed : (key block : ℕ) → Clear (rows key block) → Allowed key block
+allowed key block (k, (b, none)) = record { key-16 = eqb-true _ _ (not-false _ k); block-16 = eqb-true _ _ (not-false _ b) }
 
-  done : length key ≡ 16 → length block ≡ 16 → answered 0 (bytes 16 (cipher back (number key) (number block))) ≡ crypting back key block
-  unfolding crypting
-  done hk hb = simp (eq-eqb _ _ hk, eq-eqb _ _ hb)
-
-  pub crypted : {k x y : Block} {a : Additions} {end : List ℕ} → length key ≡ 16 → length block ≡ 16
-      → k ≡ halves (loaded key 0 16) → a ≡ additions (value k) → x ≡ halves (loaded block 0 16)
-      → y ≡ halves (forty back (addition a) (value x)) → end ≡ stored block 0 16 (value y) → answered 0 end ≡ crypting back key block
-  crypted {k} {x} {y} {a} {end} hk hb ek ea ex ey ee =
-      let vk : value k ≡ number key = value-is ek ∙ loaded-all key hk in
-      let vx : value x ≡ number block = value-is ex ∙ loaded-all block hb in
-      ap (answered 0)
-      (ee ∙ stored-all block (value y) hb
-      ∙ ap (bytes 16)
-      (value-is ey ∙ ap (λ b. forty back (addition b) (value x)) ea ∙ forty-is back (value k) (value x)
-      ∙ ap₂ (cipher back) vk vx))
-      ∙ done hk hb
+pub crypted : (back : Bool) (key block : List ℕ) {k x y : Block} {a : Additions} {end : List ℕ} → Clear (rows (length key) (length block))
+    → k ≡ halves (loaded key 0 16) → a ≡ additions (value k) → x ≡ halves (loaded block 0 16)
+    → y ≡ halves (forty back (addition a) (value x)) → end ≡ stored block 0 16 (value y) → answered 0 end ≡ crypting back key block
+unfolding crypting
+crypted back key block {k} {x} {y} {a} {end} c ek ea ex ey ee =
+    let l = allowed (length key) (length block) c in
+    let vk : value k ≡ number key = value-is ek ∙ loaded-all key (l .key-16) in
+    let vx : value x ≡ number block = value-is ex ∙ loaded-all block (l .block-16) in
+    ap (answered 0)
+    (ee ∙ stored-all block (value y) (l .block-16)
+    ∙ ap (bytes 16)
+    (value-is ey ∙ ap (λ b. forty back (addition b) (value x)) ea ∙ forty-is back (value k) (value x)
+    ∙ ap₂ (cipher back) vk vx))
+    ∙ sym (refuse-clear _ _ (rows (length key) (length block)) c)
 
 -- ---- each undoes the other, on every input: what is refused is left as it was
 
@@ -72,8 +68,8 @@ module _ (back : Bool) (key block : List ℕ) (are : Bytes block) where
   there : Bool → List ℕ → List ℕ
   there b x = bytes 16 (cipher b (number key) (number x))
 
-  full : Clear (refusals key block) → length block ≡ 16
-  full c = eqb-true _ _ (not-false _ (c .1 .0))
+  full : Clear (rows (length key) (length block)) → length block ≡ 16
+  full c = allowed (length key) (length block) c .block-16
 
   there-back : length block ≡ 16 → there (not back) (there back block) ≡ block
   unfolding there
@@ -89,7 +85,7 @@ module _ (back : Bool) (key block : List ℕ) (are : Bytes block) where
   crypting-undone : crypting (not back) key (crypting back key block .left) ≡ answered (crypting back key block .number) block
   unfolding crypting there
   crypting-undone =
-      undone (refusals key) (there back) (there (not back)) block
+      undone (λ b. rows (length key) (length b)) (there back) (there (not back)) block
       (λ c. rw (length-bytes 16 (cipher back (number key) (number block)), full c)) (λ c. there-back (full c))
 
 pub deciphering-enciphering : (key block : List ℕ) → Bytes block → deciphering key (enciphering key block .left) ≡ answered (enciphering key block .number) block

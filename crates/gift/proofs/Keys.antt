@@ -1,5 +1,4 @@
 -- The key state in its halves, and what is worked out from it.
--- Assumes nothing.
 use mathlib.Core.Path.{_≡_, refl, sym, ap, ap₂, subst⁻¹, _∙_}
 use Prim.Native.Nat.{ℕ, _+_, _-_, _*_, _/_, _%_, _^_, _≤_, _<_}
 use native.Mathlib.Nat.{div-one}
@@ -15,7 +14,7 @@ use Rattle.words.proofs.Blocks.{whole, value-is}
 use Rattle.words.proofs.Rotation.{rotr-is, rotr-lt}
 use Rattle.words.proofs.Turns.{turns-next}
 use Rattle.gift.specs.Gift.{word, keyU, keyV, keyBits, stepConst, roundConst, constBits, keyStep, keyAt, added}
-use Rattle.gift.proofs.Fields.{field-low, from-high}
+use Rattle.words.proofs.Fields.{field-low, from-high}
 
 -- ---- U and V
 

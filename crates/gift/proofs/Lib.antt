@@ -1,5 +1,4 @@
 -- Laws of GIFT-128.
-pub mod Fields
 pub mod Steps
 pub mod Inverse
 pub mod Keys

@@ -1,20 +1,27 @@
 -- Each public function's promise allows one result.
--- Assumes nothing.
-use mathlib.Core.Path.{_≡_}
-use mathlib.Core.List.{List}
+use mathlib.Core.Path.{_≡_, refl}
+use mathlib.Core.Bool.{Bool}
+use mathlib.Core.List.{List, []}
 use Prim.Native.Nat.{ℕ}
+use lib.ListN.{length}
 use Rattle.words.specs.declared.Block.{Block}
 use Rattle.words.specs.Block.{value, halves}
-use Rattle.words.specs.Refuse.{answered}
-use Rattle.words.proofs.Refusals.{same, same-answer}
+use Rattle.answers.specs.Answers.{applying, smallest}
+use Rattle.answers.proofs.Answers.{same-answer, least-answered}
+use Rattle.words.proofs.Single.{same}
 use Rattle.gift.specs.declared.Additions.{Additions}
-use Rattle.gift.specs.Entry.{additions, enciphers, deciphers, enciphering, deciphering}
+use Rattle.gift.specs.Entry.{additions, enciphers, deciphers, rows, crypting, Enciphering, Deciphering}
 
-pub encipher-single : (key block : List ℕ) {m n : ℕ} {a b : List ℕ} → answered m a ≡ enciphering key block → answered n b ≡ enciphering key block → (m ≡ n) × (a ≡ b)
+pub encipher-single : (key block : List ℕ) {m n : ℕ} {a b : List ℕ} → Enciphering m key block a → Enciphering n key block b → (m ≡ n) × (a ≡ b)
 encipher-single key block = same-answer
 
-pub decipher-single : (key block : List ℕ) {m n : ℕ} {a b : List ℕ} → answered m a ≡ deciphering key block → answered n b ≡ deciphering key block → (m ≡ n) × (a ≡ b)
+pub decipher-single : (key block : List ℕ) {m n : ℕ} {a b : List ℕ} → Deciphering m key block a → Deciphering n key block b → (m ≡ n) × (a ≡ b)
 decipher-single key block = same-answer
+
+-- the number is the smallest that applies
+pub crypting-least : (back : Bool) (key block : List ℕ) → crypting back key block .number ≡ smallest (applying (rows (length key) (length block)))
+unfolding crypting
+crypting-least back key block = least-answered _ _ [] refl (rows (length key) (length block)) tt
 
 pub additions-of-single : (key : Block) {a b : Additions} → a ≡ additions (value key) → b ≡ additions (value key) → a ≡ b
 additions-of-single key = same

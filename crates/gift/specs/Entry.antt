@@ -1,6 +1,6 @@
 -- What the entry points answer.
--- Assumes nothing.
 use Prim.Native.Nat.{ℕ}
+use mathlib.Core.Path.{_≡_}
 use mathlib.Core.Bool.{Bool, true, false, not}
 use mathlib.Core.List.{List, [], _∷_}
 use lib.Dec.{eqb}
@@ -8,7 +8,7 @@ use lib.ListN.{length, getD}
 use Rattle.words.specs.Block.{value, halves}
 use Rattle.words.specs.Bytes.{number, bytes}
 use Rattle.words.specs.Digits.{tab}
-use Rattle.words.specs.Refuse.{Row, Answer, answer}
+use Rattle.answers.specs.Answers.{Row, Answer, answered, answer}
 use Rattle.gift.specs.declared.Additions.{Additions}
 use Rattle.gift.specs.Gift.{place, added, forty, cipher}
 
@@ -33,20 +33,23 @@ enciphers a x = forty false (addition a) x
 unfoldable pub deciphers : Additions → ℕ → ℕ
 deciphers a x = forty true (addition a) x
 
--- ---- on byte buffers: 1 "key has a wrong length", 4 "text or block length not allowed"
+-- ---- on byte buffers; of their lengths: 1 "key has a wrong length", 4 "text or block length not allowed"
 
-abbrev pub refusals : List ℕ → List ℕ → List Row
-refusals key block =
-    record { applies = not (eqb (length key) 16); number = 1 }
-    ∷ record { applies = not (eqb (length block) 16); number = 4 }
-    ∷ []
+abbrev pub rows : ℕ → ℕ → List Row
+rows key block = record { applies = not (eqb key 16); number = 1 } ∷ record { applies = not (eqb block 16); number = 4 } ∷ []
 
 -- the number that is answered, and the bytes of the block then
 unfoldable pub crypting : Bool → List ℕ → List ℕ → Answer (List ℕ)
-crypting back key block = answer (refusals key block) (bytes 16 (cipher back (number key) (number block))) block
+crypting back key block = answer (rows (length key) (length block)) (bytes 16 (cipher back (number key) (number block))) block
 
 abbrev pub enciphering : List ℕ → List ℕ → Answer (List ℕ)
 enciphering key block = crypting false key block
 
+abbrev pub Enciphering : ℕ → List ℕ → List ℕ → List ℕ → Type 0
+Enciphering r key block block′ = answered r block′ ≡ enciphering key block
+
 abbrev pub deciphering : List ℕ → List ℕ → Answer (List ℕ)
 deciphering key block = crypting true key block
+
+abbrev pub Deciphering : ℕ → List ℕ → List ℕ → List ℕ → Type 0
+Deciphering r key block block′ = answered r block′ ≡ deciphering key block

@@ -1,7 +1,6 @@
 -- GIFT-128, as document 01's section of that name fixes it; the sentences in quotes are its own.
 -- "A block is a number of 128 bits": blocks and key states are numbers below 2 ^ 128. The direction is a Bool, true for
 -- the way back: "Deciphering undoes the rounds."
--- Assumes nothing.
 use Prim.Native.Nat.{ℕ, zero, suc, _+_, _-_, _*_, _/_, _%_, _^_}
 use mathlib.Core.Bool.{Bool, true, false, cond}
 use mathlib.Core.List.{List, [], _∷_}

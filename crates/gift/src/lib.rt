@@ -5,12 +5,13 @@ ghost use Prim.Native.Nat.{_+_, _-_, _*_, _/_, _%_, _<_, _≤_, _^_};
 ghost use lib.Bits.{bitXor};
 ghost use Rattle.words.specs.Block.{value, halves};
 ghost use Rattle.words.specs.Digits.{rotr};
-ghost use Rattle.words.specs.Refuse.{answered};
+ghost use Rattle.answers.specs.Answers.{numberOf, answered};
 ghost use Rattle.gift.specs.Gift.{sbox, subCells, permBits, spread, keyBits, stepConst, constBits, keyStep, round, forty};
-ghost use Rattle.gift.specs.Entry.{placeTable, additions, addition, enciphers, deciphers, crypting, enciphering, deciphering};
+ghost use Rattle.gift.specs.Entry.{placeTable, additions, addition, enciphers, deciphers, rows, crypting, Enciphering, Deciphering};
 
 mod places;
 
+use answers::row;
 use words::Block;
 
 // What each of the forty rounds adds to the block: worked out once for a key, it serves for many blocks.
@@ -20,14 +21,14 @@ pub struct Additions {
 
 // Enciphers block in place. Answers 0, or the refusal.
 pub fn encipher(key: &[u8], block: &mut [u8]) -> u32
-    ensures { λ r. ⌜ answered r (now (block .exit)) ≡ enciphering (now (key .entry)) (now (block .entry)) ⌝ }
+    ensures { λ r. ⌜ Enciphering r (now (key .entry)) (now (block .entry)) (now (block .exit)) ⌝ }
 {
     crypt(false, key, block)
 }
 
 // Deciphers block in place. Answers 0, or the refusal.
 pub fn decipher(key: &[u8], block: &mut [u8]) -> u32
-    ensures { λ r. ⌜ answered r (now (block .exit)) ≡ deciphering (now (key .entry)) (now (block .entry)) ⌝ }
+    ensures { λ r. ⌜ Deciphering r (now (key .entry)) (now (block .entry)) (now (block .exit)) ⌝ }
 {
     crypt(true, key, block)
 }
@@ -67,16 +68,21 @@ pub fn decipher_block(a: Additions, x: Block) -> Block
 fn crypt(back: bool, key: &[u8], block: &mut [u8]) -> u32
     ensures { λ r. ⌜ answered r (now (block .exit)) ≡ crypting back (now (key .entry)) (now (block .entry)) ⌝ }
 {
-    if key.len() != 16 {
-        return 1;
-    }
-    if block.len() != 16 {
-        return 4;
+    let refused = refusal(key.len(), block.len());
+    if refused != 0 {
+        return refused;
     }
     let a = additions_of(words::load(key, 0, 16));
     let x = words::load(&block[..], 0, 16);
     words::store(block, 0, 16, forty_rounds(back, a, x));
     0
+}
+
+// The refusal that the lengths call for, or 0.
+fn refusal(key: usize, block: usize) -> u32
+    ensures { λ r. ⌜ r ≡ numberOf (rows key block) ⌝ }
+{
+    row(key != 16, 1, row(block != 16, 4, 0))
 }
 
 fn forty_rounds(back: bool, a: Additions, x: Block) -> Block

@@ -1,5 +1,4 @@
 -- LIONESS both ways: each undoes the other, over any stream that undoes itself and keeps lengths, and any hash at all.
--- Assumes nothing.
 use mathlib.Core.Path.{_≡_, refl, _∙_}
 use mathlib.Core.Bool.{Bool, true, false, cond}
 use mathlib.Core.List.{List, _++_}

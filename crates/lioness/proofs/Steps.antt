@@ -1,27 +1,26 @@
 -- What the code's steps make, from what their calls ensure.
--- Assumes nothing.
 use mathlib.Core.Path.{_≡_, sym, ap, _∙_}
 use mathlib.Core.List.{List, _++_, append-nil}
 use Prim.Native.Nat.{ℕ, _+_, _-_, _*_, _/_, _^_, _≤_}
 use native.Mathlib.Nat.{zero-add}
 use native.Mathlib.Omega.{arith}
-use lib.Dec.{lit≤}
-use lib.ListN.{length, take, drop, replicate, length-drop, length-append, take-append-drop, drop-of-length-le}
+use lib.ListN.{length, take, drop, replicate, length-drop, length-append, drop-of-length-le}
 use lib.Seq.{take-all, length-take-le}
 use borrow.Rule.Slice.PartMut.{putMid}
-use borrow.Author.Tests.{eq-eqb, le-ltb}
+use borrow.Author.Tests.{eqb-true, not-false, ltb-false}
 use Rattle.words.specs.Block.{part}
 use Rattle.words.specs.Bytes.{plus, plusAt}
-use Rattle.words.specs.Refuse.{Answer, answered}
+use Rattle.answers.specs.Answers.{Answer, answered}
+use Rattle.answers.proofs.Answers.{Clear}
 use Rattle.words.proofs.Lists.{length-part}
-use Rattle.words.proofs.Plus.{length-plus, plus-zeros, plusAt-first, plusAt-append, plusAt-part}
+use Rattle.words.proofs.Plus.{length-plus, plus-zeros, plusAt-first, plusAt-append}
 use Rattle.chacha.specs.Entry.{streaming}
 use Rattle.chacha.proofs.Streams.{streaming-done}
 use Rattle.blake.specs.Blake.{digest}
 use Rattle.blake.specs.Entry.{digesting}
-use Rattle.blake.proofs.Hashing.{digesting-done, length-digest}
+use Rattle.blake.proofs.Hashing.{digesting-done}
 use Rattle.lioness.specs.Lioness.{piece, left, right, streamStep, digestStep, step, steps}
-use Rattle.lioness.specs.Entry.{chacha, blake, ordered}
+use Rattle.lioness.specs.Entry.{chacha, blake, rows}
 
 -- ---- the parts of key and iv
 
@@ -76,21 +75,19 @@ module _ (j : ℕ) (key iv : List ℕ) (low : 1 ≤ j) (high : j ≤ 4) (hk : le
         let ex : x ≡ chacha k n (right block) = ap (λ (y : Answer (List ℕ)). y .left) (es′ ∙ streaming-done k n (right block) 0 lk iv-piece short hb) in
         rw (drop-of-length-le (right block) {i = length block - 32} (simp length-drop (omega arith)), append-nil, ex, ek)
 
-    pub digest-step-is : (k room d block′ : List ℕ) (r : ℕ) → k ≡ piece 32 j key ++ piece 12 j iv → length room ≡ 64
-        → answered r d ≡ digesting k (take (length block - 32) (right block)) room → block′ ≡ plusAt 0 block (part d 0 32)
-        → block′ ≡ digestStep chacha blake key iv j block
+    pub digest-step-is : (k room d x : List ℕ) (r : ℕ) → k ≡ piece 32 j key ++ piece 12 j iv → length room ≡ 64
+        → answered r d ≡ digesting k (take (length block - 32) (right block)) room → x ≡ plusAt 0 (left block) (part d 0 32)
+        → x ++ right block ≡ digestStep chacha blake key iv j block
     unfolding digestStep
-    digest-step-is k room d block′ r ek er es eb =
+    digest-step-is k room d x r ek er es ex =
         let R = right block in
         let lk : length k ≤ 64 = omega (arith, ap length ek ∙ hash-key) in
         let none : length room ≡ 0 → ⊥ = λ e. omega arith in
         let es′ : answered r d ≡ digesting k R room = es ∙ rw lent in
         let ed : d ≡ blake k R = ap (λ (y : Answer (List ℕ)). y .left) (es′ ∙ digesting-done k R room lk short none (omega arith)) ∙ ap (λ (n : ℕ). digest k R n) er in
-        let t = take 32 (blake k R) in
-        let lt : length t ≡ 32 = length-take-le 32 (blake k R) (omega (arith, length-digest k R 64 (lit≤ tt))) in
-        eb ∙ ap (λ (l : List ℕ). plusAt 0 block (take 32 l)) ed ∙ ap (λ (l : List ℕ). plusAt 0 l t) (sym (take-append-drop 32 block))
-        ∙ plusAt-part (left block) R t (length-take-le 32 block (omega arith) ∙ sym lt)
-        ∙ ap (λ (l : List ℕ). plus (left block) (take 32 (blake l R)) ++ R) ek
+        ap (λ (l : List ℕ). l ++ R)
+        (ex ∙ plusAt-first (left block) (take 32 d) ∙ ap (λ (l : List ℕ). plus (left block) (take 32 l)) ed
+        ∙ ap (λ (l : List ℕ). plus (left block) (take 32 (blake l R))) ek)
 
 -- ---- four of them
 
@@ -99,8 +96,14 @@ pub steps-are : (key iv x₀ x₁ x₂ x₃ x₄ : List ℕ) (a b c d : ℕ) →
 unfolding steps
 steps-are key iv x₀ x₁ x₂ x₃ x₄ a b c d e₁ e₂ e₃ e₄ = rw (e₄, e₃, e₂, e₁)
 
--- where nothing is refused
-pub ordered-done : (a b c d : ℕ) (key iv block : List ℕ) → length key ≡ 128 → length iv ≡ 48 → 33 ≤ length block → length block ≤ 1048608
-    → ordered a b c d key iv block ≡ answered 0 (steps chacha blake key iv a b c d block)
-unfolding ordered
-ordered-done a b c d key iv block hk hi hl hu = simp (eq-eqb _ _ hk, eq-eqb _ _ hi, le-ltb _ _ hl, le-ltb _ _ hu)
+-- ---- what is not refused
+
+pub record Allowed (key iv block : ℕ) : Type 0 where
+  pub key-128 : key ≡ 128
+  pub iv-48 : iv ≡ 48
+  pub block-least : 33 ≤ block
+  pub block-most : block ≤ 1048608
+
+pub allowed : (key iv block : ℕ) → Clear (rows key iv block) → Allowed key iv block
+allowed key iv block (k, (i, (l, (m, none)))) =
+    record { key-128 = eqb-true _ _ (not-false _ k); iv-48 = eqb-true _ _ (not-false _ i); block-least = ltb-false _ _ l; block-most = ltb-false _ _ m }

@@ -1,30 +1,29 @@
 -- Enciphering and deciphering, as the entry points answer, undo each other: for every key, iv and block, refused or not.
--- Assumes nothing.
 use mathlib.Core.Path.{_≡_}
 use mathlib.Core.List.{List}
 use Prim.Native.Nat.{ℕ, _≤_}
 use native.Mathlib.Omega.{arith}
 use lib.ListN.{length}
-use borrow.Author.Tests.{ltb-false}
-use Rattle.words.specs.Refuse.{answered}
-use Rattle.words.proofs.Refusals.{Clear, undone}
+use Rattle.answers.specs.Answers.{answered}
+use Rattle.answers.proofs.Answers.{Clear, undone}
 use Rattle.chacha.proofs.Streams.{length-stream, stream-twice}
 use Rattle.lioness.specs.Lioness.{steps}
-use Rattle.lioness.specs.Entry.{chacha, blake, refusals, ordered, enciphering, deciphering}
+use Rattle.lioness.specs.Entry.{chacha, blake, rows, ordered, enciphering, deciphering}
+use Rattle.lioness.proofs.Steps.{allowed}
 use Rattle.lioness.proofs.Inverse.{length-steps, steps-undone}
 
 module _ (key iv block : List ℕ) (p q r s : ℕ) where
-  long : Clear (refusals key iv block) → 32 ≤ length block
-  long c = let h : 33 ≤ length block = ltb-false _ _ (c .1 .1 .0) in omega arith
+  long : Clear (rows (length key) (length iv) (length block)) → 32 ≤ length block
+  long c = let l = allowed (length key) (length iv) (length block) c .block-least in omega arith
 
-  same-length : Clear (refusals key iv block) → length (steps chacha blake key iv p q r s block) ≡ length block
+  same-length : Clear (rows (length key) (length iv) (length block)) → length (steps chacha blake key iv p q r s block) ≡ length block
   same-length c = length-steps chacha blake (λ k n t. stream-twice k n t 0) (λ k n t. length-stream k n t 0) key iv p q r s block (long c)
 
   -- the same number, and the block as it was
   ordered-undone : ordered s r q p key iv (ordered p q r s key iv block .left) ≡ answered (ordered p q r s key iv block .number) block
   unfolding ordered
   ordered-undone =
-      undone (refusals key iv) (steps chacha blake key iv p q r s) (steps chacha blake key iv s r q p) block
+      undone (λ b. rows (length key) (length iv) (length b)) (steps chacha blake key iv p q r s) (steps chacha blake key iv s r q p) block
       (λ c. rw (same-length c))
       (λ c. steps-undone chacha blake (λ k n t. stream-twice k n t 0) (λ k n t. length-stream k n t 0) key iv p q r s block (long c))
 

@@ -4,20 +4,21 @@ ghost use mathlib.Core.List.{_++_};
 ghost use Prim.Native.Nat.{_≤_};
 ghost use lib.ListN.{length};
 ghost use Rattle.words.specs.Bytes.{plus};
-ghost use Rattle.words.specs.Refuse.{answered};
-ghost use Rattle.lioness.specs.Lioness.{piece, left, streamStep, digestStep, step};
-ghost use Rattle.lioness.specs.Entry.{chacha, blake, ordered, enciphering, deciphering};
+ghost use Rattle.answers.specs.Answers.{numberOf, answered};
+ghost use Rattle.lioness.specs.Lioness.{piece, left, streamStep, digestStep, step, steps};
+ghost use Rattle.lioness.specs.Entry.{chacha, blake, rows, ordered, Enciphering, Deciphering};
+use answers::row;
 
 // Enciphers block in place. Answers 0, or the refusal.
 pub fn encipher(key: &[u8], iv: &[u8], block: &mut [u8]) -> u32
-    ensures { λ r. ⌜ answered r (now (block .exit)) ≡ enciphering (now (key .entry)) (now (iv .entry)) (now (block .entry)) ⌝ }
+    ensures { λ r. ⌜ Enciphering r (now (key .entry)) (now (iv .entry)) (now (block .entry)) (now (block .exit)) ⌝ }
 {
     in_order(1, 2, 3, 4, key, iv, block)
 }
 
 // Deciphers block in place. Answers 0, or the refusal.
 pub fn decipher(key: &[u8], iv: &[u8], block: &mut [u8]) -> u32
-    ensures { λ r. ⌜ answered r (now (block .exit)) ≡ deciphering (now (key .entry)) (now (iv .entry)) (now (block .entry)) ⌝ }
+    ensures { λ r. ⌜ Deciphering r (now (key .entry)) (now (iv .entry)) (now (block .entry)) (now (block .exit)) ⌝ }
 {
     in_order(4, 3, 2, 1, key, iv, block)
 }
@@ -27,23 +28,34 @@ fn in_order(a: usize, b: usize, c: usize, d: usize, key: &[u8], iv: &[u8], block
     requires { ⌜ (1 ≤ a) × (a ≤ 4) × (1 ≤ b) × (b ≤ 4) × (1 ≤ c) × (c ≤ 4) × (1 ≤ d) × (d ≤ 4) ⌝ }
     ensures { λ r. ⌜ answered r (now (block .exit)) ≡ ordered a b c d (now (key .entry)) (now (iv .entry)) (now (block .entry)) ⌝ }
 {
-    if key.len() != 128 {
-        return 1;
+    let refused = refusal(key.len(), iv.len(), block.len());
+    if refused != 0 {
+        return refused;
     }
-    if iv.len() != 48 {
-        return 2;
-    }
-    if block.len() < 33 {
-        return 4;
-    }
-    if block.len() > 1048608 {
-        return 4;
-    }
+    four_steps(a, b, c, d, &key[..128], &iv[..48], block);
+    0
+}
+
+// The steps, on a key and an iv that are cut to the lengths they have: so the compiler sees them, and makes the steps'
+// sums for these lengths and not for any.
+fn four_steps(a: usize, b: usize, c: usize, d: usize, key: &[u8], iv: &[u8], block: &mut [u8])
+    requires { ⌜ (1 ≤ a) × (a ≤ 4) × (1 ≤ b) × (b ≤ 4) × (1 ≤ c) × (c ≤ 4) × (1 ≤ d) × (d ≤ 4)
+        × (length (now key) ≡ 128) × (length (now iv) ≡ 48) × (33 ≤ length (now block)) × (length (now block) ≤ 1048608) ⌝ }
+    ensures { λ _. ⌜ now (block .exit) ≡ steps chacha blake (now (key .entry)) (now (iv .entry)) a b c d (now (block .entry)) ⌝ }
+{
     step_of(a, key, iv, block);
     step_of(b, key, iv, block);
     step_of(c, key, iv, block);
     step_of(d, key, iv, block);
-    0
+}
+
+// The refusal that the lengths call for, or 0: the rows from the last up.
+fn refusal(key: usize, iv: usize, block: usize) -> u32
+    ensures { λ r. ⌜ r ≡ numberOf (rows key iv block) ⌝ }
+{
+    let four = row(block < 33, 4, row(block > 1048608, 4, 0));
+    let two = row(iv != 48, 2, four);
+    row(key != 128, 1, two)
 }
 
 // Step j.
@@ -63,7 +75,7 @@ fn stream_step(j: usize, key: &[u8], iv: &[u8], block: &mut [u8])
     requires { ⌜ (1 ≤ j) × (j ≤ 4) × (length (now key) ≡ 128) × (length (now iv) ≡ 48) × (33 ≤ length (now block)) × (length (now block) ≤ 1048608) ⌝ }
     ensures { λ _. ⌜ now (block .exit) ≡ streamStep chacha blake (now (key .entry)) (now (iv .entry)) j (now (block .entry)) ⌝ }
 {
-    let k = stream_key(j, key, block);
+    let k = stream_key(j, key, &block[..32]);
     let at = 12 * (j - 1);
     let end = at + 12;
     chacha::stream(&k, &iv[at..end], 0, &mut block[32..]);
@@ -77,7 +89,7 @@ fn digest_step(j: usize, key: &[u8], iv: &[u8], block: &mut [u8])
     let k = digest_key(j, key, iv);
     let mut d = [0u8; 64];
     blake::digest(&k, &block[32..], &mut d);
-    words::add(block, 0, &d, 0, 32);
+    words::add(&mut block[..32], 0, &d, 0, 32);
 }
 
 // L plus the j-th part of the key.

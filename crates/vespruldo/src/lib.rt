@@ -1,11 +1,10 @@
-// What C and Rust link. Each function is a thin call with the whole promise of what it calls; a slice crosses
-// as a pointer and a length, a struct by value.
+// What C and Rust link. Each function is a thin call with the whole promise of what it calls, by its name; a slice
+// crosses as a pointer and a length, a struct by value.
 use books::Found;
 use drawer::Drawer;
 use drawer::Drawn;
 use drawer::DrawnIv;
 ghost use mathlib.Core.Path.{_≡_};
-ghost use Rattle.words.specs.Refuse.{answered};
 ghost use Rattle.gift.specs.Entry as gift;
 ghost use Rattle.hyena.specs.Entry as hyena;
 ghost use Rattle.chacha.specs.Entry as chacha;
@@ -16,14 +15,14 @@ ghost use Rattle.books.specs.Entry as books;
 
 #[no_mangle]
 pub extern "C" fn vespruldo_gift_encipher(key: &[u8], block: &mut [u8]) -> u32
-    ensures { λ r. ⌜ answered r (now (block .exit)) ≡ gift.enciphering (now (key .entry)) (now (block .entry)) ⌝ }
+    ensures { λ r. ⌜ gift.Enciphering r (now (key .entry)) (now (block .entry)) (now (block .exit)) ⌝ }
 {
     gift::encipher(key, block)
 }
 
 #[no_mangle]
 pub extern "C" fn vespruldo_gift_decipher(key: &[u8], block: &mut [u8]) -> u32
-    ensures { λ r. ⌜ answered r (now (block .exit)) ≡ gift.deciphering (now (key .entry)) (now (block .entry)) ⌝ }
+    ensures { λ r. ⌜ gift.Deciphering r (now (key .entry)) (now (block .entry)) (now (block .exit)) ⌝ }
 {
     gift::decipher(key, block)
 }
@@ -37,8 +36,7 @@ pub extern "C" fn vespruldo_seal(
     room: &mut [u8],
     tag: &mut [u8],
 ) -> u32
-    ensures { λ r. ⌜ answered r (record { room = now (room .exit); tag = now (tag .exit) })
-        ≡ hyena.sealing (now (key .entry)) (now (nonce .entry)) (now (ad .entry)) (now (text .entry)) (now (room .entry)) (now (tag .entry)) ⌝ }
+    ensures { λ r. ⌜ hyena.Sealing hyena.gift r (hyena.inputs (now (key .entry)) (now (nonce .entry)) (now (ad .entry)) (now (text .entry))) (now (room .entry)) (now (tag .entry)) (now (room .exit)) (now (tag .exit)) ⌝ }
 {
     hyena::seal(key, nonce, ad, text, room, tag)
 }
@@ -52,8 +50,7 @@ pub extern "C" fn vespruldo_open(
     tag: &[u8],
     room: &mut [u8],
 ) -> u32
-    ensures { λ r. ⌜ answered r (now (room .exit))
-        ≡ hyena.opening (now (key .entry)) (now (nonce .entry)) (now (ad .entry)) (now (ciphertext .entry)) (now (tag .entry)) (now (room .entry)) ⌝ }
+    ensures { λ r. ⌜ hyena.Opening hyena.gift r (hyena.inputs (now (key .entry)) (now (nonce .entry)) (now (ad .entry)) (now (ciphertext .entry))) (now (tag .entry)) (now (room .entry)) (now (room .exit)) ⌝ }
 {
     hyena::open(key, nonce, ad, ciphertext, tag, room)
 }
@@ -66,8 +63,7 @@ pub extern "C" fn vespruldo_seal_short(
     room: &mut [u8],
     tag: &mut [u8],
 ) -> u32
-    ensures { λ r. ⌜ answered r (record { room = now (room .exit); tag = now (tag .exit) })
-        ≡ hyena.sealing (now (key .entry)) (now (nonce .entry)) hyena.shortData (now (text .entry)) (now (room .entry)) (now (tag .entry)) ⌝ }
+    ensures { λ r. ⌜ hyena.Sealing hyena.gift r (hyena.short (now (key .entry)) (now (nonce .entry)) (now (text .entry))) (now (room .entry)) (now (tag .entry)) (now (room .exit)) (now (tag .exit)) ⌝ }
 {
     hyena::seal_short(key, nonce, text, room, tag)
 }
@@ -80,36 +76,35 @@ pub extern "C" fn vespruldo_open_short(
     tag: &[u8],
     room: &mut [u8],
 ) -> u32
-    ensures { λ r. ⌜ answered r (now (room .exit))
-        ≡ hyena.opening (now (key .entry)) (now (nonce .entry)) hyena.shortData (now (ciphertext .entry)) (now (tag .entry)) (now (room .entry)) ⌝ }
+    ensures { λ r. ⌜ hyena.Opening hyena.gift r (hyena.short (now (key .entry)) (now (nonce .entry)) (now (ciphertext .entry))) (now (tag .entry)) (now (room .entry)) (now (room .exit)) ⌝ }
 {
     hyena::open_short(key, nonce, ciphertext, tag, room)
 }
 
 #[no_mangle]
 pub extern "C" fn vespruldo_chacha20(key: &[u8], nonce: &[u8], start: u32, text: &mut [u8]) -> u32
-    ensures { λ r. ⌜ answered r (now (text .exit)) ≡ chacha.streaming (now (key .entry)) (now (nonce .entry)) start (now (text .entry)) ⌝ }
+    ensures { λ r. ⌜ chacha.Streaming r (now (key .entry)) (now (nonce .entry)) start (now (text .entry)) (now (text .exit)) ⌝ }
 {
     chacha::stream(key, nonce, start, text)
 }
 
 #[no_mangle]
 pub extern "C" fn vespruldo_blake2b(key: &[u8], text: &[u8], room: &mut [u8]) -> u32
-    ensures { λ r. ⌜ answered r (now (room .exit)) ≡ blake.digesting (now (key .entry)) (now (text .entry)) (now (room .entry)) ⌝ }
+    ensures { λ r. ⌜ blake.Digesting r (now (key .entry)) (now (text .entry)) (now (room .entry)) (now (room .exit)) ⌝ }
 {
     blake::digest(key, text, room)
 }
 
 #[no_mangle]
 pub extern "C" fn vespruldo_lioness_encipher(key: &[u8], iv: &[u8], block: &mut [u8]) -> u32
-    ensures { λ r. ⌜ answered r (now (block .exit)) ≡ lioness.enciphering (now (key .entry)) (now (iv .entry)) (now (block .entry)) ⌝ }
+    ensures { λ r. ⌜ lioness.Enciphering r (now (key .entry)) (now (iv .entry)) (now (block .entry)) (now (block .exit)) ⌝ }
 {
     lioness::encipher(key, iv, block)
 }
 
 #[no_mangle]
 pub extern "C" fn vespruldo_lioness_decipher(key: &[u8], iv: &[u8], block: &mut [u8]) -> u32
-    ensures { λ r. ⌜ answered r (now (block .exit)) ≡ lioness.deciphering (now (key .entry)) (now (iv .entry)) (now (block .entry)) ⌝ }
+    ensures { λ r. ⌜ lioness.Deciphering r (now (key .entry)) (now (iv .entry)) (now (block .entry)) (now (block .exit)) ⌝ }
 {
     lioness::decipher(key, iv, block)
 }
@@ -123,21 +118,21 @@ pub extern "C" fn vespruldo_drawer_start(reader: u32, count: u64) -> Drawer
 
 #[no_mangle]
 pub extern "C" fn vespruldo_drawer_draw(d: Drawer) -> Drawn
-    ensures { λ r. ⌜ answered (r .number) (record { bytes = r .bytes; next = r .next }) ≡ drawer.drawing d ⌝ }
+    ensures { λ r. ⌜ drawer.Drawing drawer.forNonce (r .number) d (r .bytes) (r .next) ⌝ }
 {
     drawer::draw(d)
 }
 
 #[no_mangle]
 pub extern "C" fn vespruldo_drawer_iv(d: Drawer) -> DrawnIv
-    ensures { λ r. ⌜ answered (r .number) (record { bytes = r .bytes; next = r .next }) ≡ drawer.ivDrawing d ⌝ }
+    ensures { λ r. ⌜ drawer.Drawing drawer.forIv (r .number) d (r .bytes) (r .next) ⌝ }
 {
     drawer::iv(d)
 }
 
 #[no_mangle]
 pub extern "C" fn vespruldo_key_find(this: &[u8], last: &[u8], class: u16) -> Found
-    ensures { λ r. ⌜ answered (r .number) (record { book = r .book; at = r .at }) ≡ books.finding (now (this .entry)) (now (last .entry)) class ⌝ }
+    ensures { λ r. ⌜ books.Finding (r .number) (now (this .entry)) (now (last .entry)) class (r .book) (r .at) ⌝ }
 {
     books::find(this, last, class)
 }

@@ -3,18 +3,18 @@ use borrow.Author.Needs.{needs}
 use Rattle.books.proofs.class_at.Statement.{statement}
 use Rattle.books.proofs.class_at.Tie as tie
 
-mul-number-at : tie.Need-mul-number-at
-mul-number-at c = search needs
+mul-two : tie.Need-mul-two
+mul-two c = search needs
 
-add-number-at : tie.Need-add-number-at
-add-number-at c = search needs
+add-two : tie.Need-add-two
+add-two c = search needs
 
-number-at-requires : tie.Need-number-at-requires
-number-at-requires c κs = search needs
+two-requires : tie.Need-two-requires
+two-requires c κs = search needs
 
 returns : tie.Need-returns
 unfolding class
-returns c = c .number-at .ensures .0
+returns c = c .two .ensures
 
 pub class-at-spec : {M : Type 1} → statement M
-class-at-spec = tie.close (tie.spec mul-number-at add-number-at number-at-requires returns)
+class-at-spec = tie.close (tie.spec mul-two add-two two-requires returns)

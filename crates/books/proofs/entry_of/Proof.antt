@@ -3,7 +3,8 @@ use Prim.Native.Nat.{_+_, _-_, _≤_}
 use native.Mathlib.Nat.{zero-add, sub-zero}
 use native.Mathlib.Omega.{arith}
 use Rattle.words.specs.Digits.{tab}
-use Rattle.books.specs.Books.{class, placeOf}
+use Rattle.words.specs.Search.{placeOf}
+use Rattle.books.specs.Books.{class}
 use Rattle.books.proofs.Loops.{goes-on, found, ended, entry-is}
 use borrow.Author.Needs.{needs}
 use Rattle.books.proofs.entry_of.Statement.{statement}
@@ -15,8 +16,8 @@ Inv-loop book c n i₀ i = (i ≤ n) × (i + placeOf c (tab (class book) i (n - 
 abbrev μ-loop : tie.MeasureT-loop
 μ-loop book c n i₀ i = n - i
 
-number-at-requires : tie.Need-number-at-requires Inv-loop μ-loop
-number-at-requires c κs = search needs
+count-of-requires : tie.Need-count-of-requires Inv-loop μ-loop
+count-of-requires c κs = search needs
 
 loop-holds : tie.Need-loop-holds Inv-loop μ-loop
 loop-holds c = (omega arith, rw (sub-zero, zero-add))
@@ -27,9 +28,8 @@ class-at-requires c κs = search needs
 returns : tie.Need-returns Inv-loop μ-loop
 returns c =
     let d = c .before .before .before in
-    let n = d .before .number-at in
-    let e : c .before .class-at .result ≡ d .before .before .before .args .class = omega (arith, c .if1 .taken) in
-    (found _ _ _ _ (d .loop .inv .1) (omega arith) (sym (c .before .class-at .ensures) ∙ e) ∙ entry-is _ _ (n .ensures .0), omega (arith, d .loop .inv .0, n .ensures .1))
+    let n = d .before .count-of in
+    (found _ _ _ _ (d .loop .inv .1) (omega arith) (sym (c .before .class-at .ensures) ∙ c .if1 .taken) ∙ entry-is _ _ (n .ensures .0), omega (arith, d .loop .inv .0, n .ensures .1))
 
 add-i : tie.Need-add-i Inv-loop μ-loop
 add-i c = search needs
@@ -40,12 +40,11 @@ loop-less c = search needs
 loop-again : tie.Need-loop-again Inv-loop μ-loop
 loop-again c =
     let d = c .before .before .before in
-    let ne : c .before .class-at .result ≡ d .before .before .before .args .class → ⊥ = λ e. c .if1 .left (omega (arith, e)) in
-    (omega arith, goes-on _ _ _ _ (d .loop .inv .1) (omega arith) (λ e. ne (c .before .class-at .ensures ∙ e)))
+    (omega arith, goes-on _ _ _ _ (d .loop .inv .1) (omega arith) (λ e. c .if1 .left (c .before .class-at .ensures ∙ e)))
 
 returns-2 : tie.Need-returns-2 Inv-loop μ-loop
 returns-2 c =
-    let n = c .before .before .number-at in
+    let n = c .before .before .count-of in
     (ended _ _ _ _ (c .before .loop .inv .1) (omega arith) ∙ entry-is _ _ (n .ensures .0), omega (arith, c .before .loop .inv .0, n .ensures .1))
 
 pub entry-of-spec : {M : Type 1} → statement M
@@ -54,7 +53,7 @@ entry-of-spec =
     (tie.spec
     Inv-loop
     μ-loop
-    number-at-requires
+    count-of-requires
     loop-holds
     class-at-requires
     returns

@@ -1,5 +1,5 @@
 use mathlib.Core.Path.{ap}
-use Rattle.words.specs.Refuse.{Answer}
+use Rattle.answers.specs.Answers.{Answer}
 use Rattle.books.specs.Entry.{Place}
 use borrow.Author.Needs.{needs}
 use Rattle.books.proofs.number.Statement.{statement}

@@ -2,7 +2,7 @@ use Prim.Native.Nat.{_+_, _≤_}
 use native.Mathlib.Omega.{arith}
 use denote.Ref.{now}
 use lib.ListN.{length}
-use Rattle.books.specs.Entry.{lent}
+use Rattle.words.specs.Lent.{lent}
 use Rattle.books.proofs.Handed.{part-fits, part-is}
 use borrow.Author.Needs.{needs}
 use Rattle.books.proofs.part.Statement.{statement}

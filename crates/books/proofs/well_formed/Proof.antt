@@ -15,8 +15,8 @@ Inv-loop book n i₀ i = (i ≤ n) × (rising (tab (class book) i (n - i)) ≡ r
 abbrev μ-loop : tie.MeasureT-loop
 μ-loop book n i₀ i = n - i
 
-number-at-requires : tie.Need-number-at-requires Inv-loop μ-loop
-number-at-requires c κs = search needs
+count-of-requires : tie.Need-count-of-requires Inv-loop μ-loop
+count-of-requires c κs = search needs
 
 mul-if1 : tie.Need-mul-if1 Inv-loop μ-loop
 mul-if1 c = search needs
@@ -25,7 +25,7 @@ add-if1 : tie.Need-add-if1 Inv-loop μ-loop
 add-if1 c = search needs
 
 returns : tie.Need-returns Inv-loop μ-loop
-returns c = other-length _ (c .before .number-at .ensures .0) (c .if1 .taken)
+returns c = other-length _ (c .before .count-of .ensures .0) (c .if1 .taken)
 
 loop-holds : tie.Need-loop-holds Inv-loop μ-loop
 loop-holds c = (omega arith, rw sub-zero)
@@ -46,7 +46,7 @@ returns-2 : tie.Need-returns-2 Inv-loop μ-loop
 returns-2 c =
     let d = c .before .before .before .before in
     let h = c .before .before .class-at .ensures in
-    judged _ (d .before .before .number-at .ensures .0) (d .before .if1 .left)
+    judged _ (d .before .before .count-of .ensures .0) (d .before .if1 .left)
     (falls _ _ _ (d .loop .inv .1) (omega arith) (omega (arith, h, c .before .class-at2 .ensures, c .if2 .taken)))
 
 add-i : tie.Need-add-i Inv-loop μ-loop
@@ -63,7 +63,7 @@ loop-again c =
 returns-3 : tie.Need-returns-3 Inv-loop μ-loop
 returns-3 c =
     let d = c .before in
-    judged _ (d .before .before .number-at .ensures .0) (d .before .if1 .left) (risen _ _ _ (d .loop .inv .1) (omega arith))
+    judged _ (d .before .before .count-of .ensures .0) (d .before .if1 .left) (risen _ _ _ (d .loop .inv .1) (omega arith))
 
 pub well-formed-spec : {M : Type 1} → statement M
 well-formed-spec =
@@ -71,7 +71,7 @@ well-formed-spec =
     (tie.spec
     Inv-loop
     μ-loop
-    number-at-requires
+    count-of-requires
     mul-if1
     add-if1
     returns

@@ -1,15 +1,18 @@
 use native.Mathlib.Omega.{arith}
-use denote.Ref.{now}
-use Rattle.card.proofs.Cards.{length-is}
+use Rattle.card.specs.Card.{lengthIn}
 use borrow.Author.Needs.{needs}
 use Rattle.card.proofs.length_in.Statement.{statement}
 use Rattle.card.proofs.length_in.Tie as tie
 
-load-requires : tie.Need-load-requires
-load-requires c κs = search needs
+two-requires : tie.Need-two-requires
+two-requires c κs = search needs
+
+cast-result : tie.Need-cast-result
+cast-result c = search needs
 
 returns : tie.Need-returns
-returns c = length-is (now (c .before .before .before .args .card)) (λ i. omega (arith, c .before .before .shared-slice-known .given i)) (c .before .load .ensures)
+unfolding lengthIn
+returns c = (c .two .ensures, omega arith)
 
 pub length-in-spec : {M : Type 1} → statement M
-length-in-spec = tie.close (tie.spec load-requires returns)
+length-in-spec = tie.close (tie.spec two-requires cast-result returns)

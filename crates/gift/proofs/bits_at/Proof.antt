@@ -2,7 +2,7 @@ use mathlib.Core.Path.{ap, _∙_}
 use Prim.Native.Nat.{ℕ, _-_, _/_, _%_, _^_}
 use native.Mathlib.Omega.{arith}
 use borrow.Author.Needs.{needs}
-use Rattle.gift.proofs.Fields.{field-low, field-high, one-shl, one-shl-pos}
+use Rattle.words.proofs.Fields.{field-low, field-high, one-shl, one-shl-pos}
 use Rattle.gift.proofs.bits_at.Statement.{statement}
 use Rattle.gift.proofs.bits_at.Tie as tie
 

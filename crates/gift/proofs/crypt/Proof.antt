@@ -1,13 +1,20 @@
-use Rattle.gift.proofs.Entry.{refused-key, refused-block, crypted}
+use denote.Ref.{now}
+use lib.ListN.{length}
+use Rattle.answers.proofs.Answers.{judged-refused, judged-clear}
+use Rattle.gift.specs.Entry.{rows, crypting}
+use Rattle.gift.proofs.Entry.{crypted}
 use borrow.Author.Needs.{needs}
 use Rattle.gift.proofs.crypt.Statement.{statement}
 use Rattle.gift.proofs.crypt.Tie as tie
 
-returns : tie.Need-returns
-returns c = refused-key _ _ _ (c .if1 .taken)
+refusal-requires : tie.Need-refusal-requires
+refusal-requires c κs = search needs
 
-returns-2 : tie.Need-returns-2
-returns-2 c = refused-block _ _ _ (c .before .if1 .left) (c .if2 .taken)
+returns : tie.Need-returns
+unfolding crypting
+returns c =
+    let a = c .before .before .before .before .args in
+    judged-refused (rows (length (now (a .key))) (length (now (a .block)))) (c .before .refusal .ensures) _ _ (c .if1 .taken)
 
 load-requires : tie.Need-load-requires
 load-requires c κs = search needs
@@ -27,23 +34,15 @@ store-requires c κs = search needs
 same-length : tie.Need-same-length
 same-length c = search needs
 
-returns-3 : tie.Need-returns-3
-returns-3 c =
+returns-2 : tie.Need-returns-2
+returns-2 c =
     let d = c .before .before .before in
     let e = d .before .before .before .before in
-    crypted _ _ _ (e .before .before .before .if1 .left) (e .before .before .if2 .left)
+    let f = e .before .before in
+    let a = f .before .before .before .before .args in
+    crypted (a .back) (now (a .key)) (now (a .block))
+    (judged-clear (rows (length (now (a .key))) (length (now (a .block)))) (f .before .refusal .ensures) tt (f .if1 .left))
     (e .before .load .ensures) (e .additions-of .ensures) (d .before .before .load2 .ensures) (d .forty-rounds .ensures) (c .before .before .store .ensures)
 
 pub crypt-spec : {M : Type 1} → statement M
-crypt-spec =
-    tie.close
-    (tie.spec
-    returns
-    returns-2
-    load-requires
-    additions-of-requires
-    load-requires-2
-    forty-rounds-requires
-    store-requires
-    same-length
-    returns-3)
+crypt-spec = tie.close (tie.spec refusal-requires returns load-requires additions-of-requires load-requires-2 forty-rounds-requires store-requires same-length returns-2)

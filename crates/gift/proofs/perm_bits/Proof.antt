@@ -9,7 +9,7 @@ use Rattle.words.proofs.Blocks.{sum-turn}
 use Rattle.words.proofs.Lists.{tab-at}
 use Rattle.words.proofs.Tests.{cond-lt}
 use Rattle.gift.specs.Gift.{bit, place, permBits}
-use Rattle.gift.proofs.Fields.{put-fits}
+use Rattle.words.proofs.Fields.{put-fits}
 use Rattle.gift.proofs.Steps.{place-lt}
 use Rattle.gift.proofs.perm_bits.Statement.{statement}
 use Rattle.gift.proofs.perm_bits.Tie as tie

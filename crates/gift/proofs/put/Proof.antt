@@ -1,5 +1,5 @@
 use native.Mathlib.Omega.{arith}
-use Rattle.gift.proofs.Fields.{put-low, put-high}
+use Rattle.words.proofs.Fields.{put-low, put-high}
 use borrow.Author.Needs.{needs}
 use Rattle.gift.proofs.put.Statement.{statement}
 use Rattle.gift.proofs.put.Tie as tie

@@ -6,7 +6,7 @@ use Rattle.words.specs.Block.{halves}
 use Rattle.words.specs.Digits.{xsum}
 use Rattle.words.proofs.Blocks.{sum-turn}
 use Rattle.gift.specs.Gift.{bit, spread}
-use Rattle.gift.proofs.Fields.{put-fits}
+use Rattle.words.proofs.Fields.{put-fits}
 use Rattle.gift.proofs.spread_of.Statement.{statement}
 use Rattle.gift.proofs.spread_of.Tie as tie
 

@@ -6,7 +6,7 @@ use Rattle.words.specs.Digits.{xsum}
 use Rattle.words.proofs.Blocks.{sum-turn}
 use Rattle.words.proofs.Sums.{pow-pow}
 use Rattle.gift.specs.Gift.{nibble, sbox, subCells}
-use Rattle.gift.proofs.Fields.{put-fits}
+use Rattle.words.proofs.Fields.{put-fits}
 use Rattle.gift.proofs.sub_cells.Statement.{statement}
 use Rattle.gift.proofs.sub_cells.Tie as tie
 

@@ -1,5 +1,7 @@
-use mathlib.Core.Path.{refl}
+use mathlib.Core.Path.{refl, sym}
+use native.Mathlib.Omega.{arith}
 use denote.Ref.{now}
+use lib.Seq.{length-take-le}
 use Rattle.lioness.proofs.Steps.{digest-step-is}
 use borrow.Author.Needs.{needs}
 use Rattle.lioness.proofs.digest_step.Statement.{statement}
@@ -26,8 +28,16 @@ slice-aggregate-digest-2 c = search needs
 digest-requires : tie.Need-digest-requires
 digest-requires c κs = search needs
 
+slice-relend-prefix-add : tie.Need-slice-relend-prefix-add
+slice-relend-prefix-add c = search needs
+
 slice-aggregate-add : tie.Need-slice-aggregate-add
-slice-aggregate-add c = search needs
+slice-aggregate-add c =
+    let d = c .before .before .before .before .before .before .before .before .before .before .before in
+    sym (length-take-le 32 (now (d .args .block)) (omega arith))
+
+slice-aggregate-add-2 : tie.Need-slice-aggregate-add-2
+slice-aggregate-add-2 c = search needs
 
 add-requires : tie.Need-add-requires
 add-requires c κs = search needs
@@ -55,7 +65,9 @@ digest-step-spec =
     part-digest-end
     slice-aggregate-digest-2
     digest-requires
+    slice-relend-prefix-add
     slice-aggregate-add
+    slice-aggregate-add-2
     add-requires
     same-length
     returns)

@@ -1,68 +1,73 @@
-use mathlib.Core.Path.{sym, ap, _∙_}
+use mathlib.Core.Path.{_≡_, sym, ap, ap₂, _∙_}
+use mathlib.Core.List.{List}
+use Prim.Native.Nat.{ℕ}
+use native.Mathlib.Omega.{arith}
 use denote.Ref.{now}
-use borrow.Author.Tests.{eq-eqb, ne-eqb, lt-ltb, le-ltb}
-use Rattle.words.specs.Refuse.{answered}
-use Rattle.lioness.specs.Entry.{ordered}
-use Rattle.lioness.proofs.Steps.{steps-are, ordered-done}
+use lib.ListN.{length, take}
+use lib.Seq.{take-all, length-take-le}
+use Rattle.answers.specs.Answers.{answered}
+use Rattle.answers.proofs.Answers.{Clear, refuse-clear, judged-refused, judged-clear}
+use Rattle.lioness.specs.Lioness.{steps}
+use Rattle.lioness.specs.Entry.{chacha, blake, rows, ordered}
+use Rattle.lioness.proofs.Steps.{Allowed, allowed}
 use borrow.Author.Needs.{needs}
 use Rattle.lioness.proofs.in_order.Statement.{statement}
 use Rattle.lioness.proofs.in_order.Tie as tie
 
+refusal-requires : tie.Need-refusal-requires
+refusal-requires c κs = search needs
+
 returns : tie.Need-returns
 unfolding ordered
-returns c = simp (ne-eqb _ _ (c .if1 .taken))
+returns c =
+    let a = c .before .before .before .before .before .args in
+    judged-refused (rows (length (now (a .key))) (length (now (a .iv))) (length (now (a .block)))) (c .before .refusal .ensures) _ _ (c .if1 .taken)
 
-returns-2 : tie.Need-returns-2
-unfolding ordered
-returns-2 c = simp (eq-eqb _ _ (c .before .if1 .left), ne-eqb _ _ (c .if2 .taken))
+-- nothing is refused
+clear : (c : tie.Else1) → let a = c .before .before .before .before .before .args in Clear (rows (length (now (a .key))) (length (now (a .iv))) (length (now (a .block))))
+clear c =
+    let a = c .before .before .before .before .before .args in
+    judged-clear (rows (length (now (a .key))) (length (now (a .iv))) (length (now (a .block)))) (c .before .refusal .ensures) tt (c .if1 .left)
 
-returns-3 : tie.Need-returns-3
-unfolding ordered
-returns-3 c = simp (eq-eqb _ _ (c .before .before .if1 .left), eq-eqb _ _ (c .before .if2 .left), lt-ltb _ _ (c .if3 .taken))
+lengths : (c : tie.Else1) → let a = c .before .before .before .before .before .args in Allowed (length (now (a .key))) (length (now (a .iv))) (length (now (a .block)))
+lengths c =
+    let a = c .before .before .before .before .before .args in
+    allowed (length (now (a .key))) (length (now (a .iv))) (length (now (a .block))) (clear c)
 
-returns-4 : tie.Need-returns-4
-unfolding ordered
-returns-4 c =
-    let d = c .before in
-    simp (eq-eqb _ _ (d .before .before .if1 .left), eq-eqb _ _ (d .before .if2 .left), le-ltb _ _ (d .if3 .left), lt-ltb _ _ (c .if4 .taken))
+slice-aggregate-four-steps : tie.Need-slice-aggregate-four-steps
+slice-aggregate-four-steps c =
+    let e = c .before in
+    let l = lengths e in
+    sym (length-take-le 128 (now (e .before .before .before .before .before .args .key)) (omega arith))
 
-step-of-requires : tie.Need-step-of-requires
-step-of-requires c κs = search needs
+slice-aggregate-four-steps-2 : tie.Need-slice-aggregate-four-steps-2
+slice-aggregate-four-steps-2 c =
+    let e = c .before .before in
+    let l = lengths e in
+    sym (length-take-le 48 (now (e .before .before .before .before .before .args .iv)) (omega arith))
 
-step-of-requires-2 : tie.Need-step-of-requires-2
-step-of-requires-2 c κs = search needs
-
-step-of-requires-3 : tie.Need-step-of-requires-3
-step-of-requires-3 c κs = search needs
-
-step-of-requires-4 : tie.Need-step-of-requires-4
-step-of-requires-4 c κs = search needs
+four-steps-requires : tie.Need-four-steps-requires
+four-steps-requires c κs =
+    let e = c .before .before .before in
+    let a = e .before .before .before .before .before .args in
+    let l = lengths e in
+    let k : length (take 128 (now (a .key))) ≡ 128 = length-take-le 128 (now (a .key)) (omega arith) in
+    let i : length (take 48 (now (a .iv))) ≡ 48 = length-take-le 48 (now (a .iv)) (omega arith) in
+    search needs
 
 same-length : tie.Need-same-length
 same-length c = search needs
 
-returns-5 : tie.Need-returns-5
-returns-5 c =
-    let s4 = c .before .before in
-    let s3 = s4 .before .before .before .before in
-    let s2 = s3 .before .before .before .before in
-    let s1 = s2 .before .before .before .before in
-    let d = s1 .before .before in
-    let a = d .before .before .before .before .before .before .before .args in
-    ap (answered 0) (steps-are (now (a .key)) (now (a .iv)) (now (a .block)) _ _ _ _ (a .a) (a .b) (a .c) (a .d) (s1 .step-of .ensures) (s2 .step-of2 .ensures) (s3 .step-of3 .ensures) (s4 .step-of4 .ensures))
-    ∙ sym (ordered-done (a .a) (a .b) (a .c) (a .d) (now (a .key)) (now (a .iv)) (now (a .block)) (d .before .before .before .if1 .left) (d .before .before .if2 .left) (d .before .if3 .left) (d .if4 .left))
+returns-2 : tie.Need-returns-2
+unfolding ordered
+returns-2 c =
+    let e = c .before .before .before .before .before .before in
+    let a = e .before .before .before .before .before .args in
+    let l = lengths e in
+    ap (answered 0)
+    (c .before .before .four-steps .ensures
+    ∙ ap₂ (λ (k i : List ℕ). steps chacha blake k i (a .a) (a .b) (a .c) (a .d) (now (a .block))) (take-all 128 (now (a .key)) (omega arith)) (take-all 48 (now (a .iv)) (omega arith)))
+    ∙ sym (refuse-clear _ _ (rows (length (now (a .key))) (length (now (a .iv))) (length (now (a .block)))) (clear e))
 
 pub in-order-spec : {M : Type 1} → statement M
-in-order-spec =
-    tie.close
-    (tie.spec
-    returns
-    returns-2
-    returns-3
-    returns-4
-    step-of-requires
-    step-of-requires-2
-    step-of-requires-3
-    step-of-requires-4
-    same-length
-    returns-5)
+in-order-spec = tie.close (tie.spec refusal-requires returns slice-aggregate-four-steps slice-aggregate-four-steps-2 four-steps-requires same-length returns-2)

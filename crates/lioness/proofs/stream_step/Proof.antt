@@ -1,12 +1,26 @@
-use mathlib.Core.Path.{refl}
+use mathlib.Core.Path.{_≡_, refl, sym, ap, _∙_}
+use native.Mathlib.Omega.{arith}
 use denote.Ref.{now}
+use lib.ListN.{length, take}
+use lib.Seq.{take-take, length-take-le}
+use Rattle.words.specs.Bytes.{plus}
+use Rattle.lioness.specs.Lioness.{piece}
 use Rattle.lioness.proofs.Steps.{stream-step-is}
 use borrow.Author.Needs.{needs}
 use Rattle.lioness.proofs.stream_step.Statement.{statement}
 use Rattle.lioness.proofs.stream_step.Tie as tie
 
+slice-reshare-prefix-stream-key : tie.Need-slice-reshare-prefix-stream-key
+slice-reshare-prefix-stream-key c = search needs
+
+slice-aggregate-stream-key : tie.Need-slice-aggregate-stream-key
+slice-aggregate-stream-key c = let d = c .before .before .before .before in sym (length-take-le 32 (now (d .args .block)) (omega arith))
+
 stream-key-requires : tie.Need-stream-key-requires
-stream-key-requires c κs = search needs
+stream-key-requires c κs =
+    let d = c .before .before .before .before in
+    let l : length (take 32 (now (d .args .block))) ≡ 32 = length-take-le 32 (now (d .args .block)) (omega arith) in
+    search needs
 
 sub-at : tie.Need-sub-at
 sub-at c = search needs
@@ -49,13 +63,16 @@ returns c =
     let s = c .before .before in
     let d = s .before .before .before .before .before .before .before .before .before in
     let p = d .pre in
+    let left-of = take-take 32 32 (now (d .args .block)) (omega arith) in
     stream-step-is (d .args .j) (now (d .args .key)) (now (d .args .iv)) (p .0) (p .1) (p .2) (p .3) (now (d .args .block)) (p .4) (p .5) _ _ _ _ _
-    refl refl (s .before .before .before .before .stream-key .ensures) (s .stream .ensures)
+    refl refl (s .before .before .before .before .stream-key .ensures ∙ ap (λ l. plus l (piece 32 (d .args .j) (now (d .args .key)))) left-of) (s .stream .ensures)
 
 pub stream-step-spec : {M : Type 1} → statement M
 stream-step-spec =
     tie.close
     (tie.spec
+    slice-reshare-prefix-stream-key
+    slice-aggregate-stream-key
     stream-key-requires
     sub-at
     mul-at
