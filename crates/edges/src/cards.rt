@@ -3,11 +3,11 @@
 // sealing, number and room of opening. Rooms of more than 32 bytes are shown by their BLAKE2b digest of 16 bytes.
 ghost use Prim.Native.Nat.{_≤_};
 use super::fill;
-use super::first;
 use super::first_mut;
 use super::put_bytes;
 use super::put_number;
 use libc::STDOUT_FILENO;
+use words::first;
 
 pub(crate) fn cards() {
     let mut key = [0u8; 17];

@@ -3,11 +3,11 @@
 ghost use Prim.Native.Nat.{_<_, _≤_};
 ghost use lib.ListN.{length};
 use super::fill;
-use super::first;
 use super::put_bytes;
 use super::put_number;
 use libc::STDOUT_FILENO;
 use words::Block;
+use words::first;
 
 // Of each kind the count, how many bytes there are, and the classes of three entries.
 const COUNTS: [u64; 13] = [0, 0, 0, 0, 1, 1, 3, 3, 3, 3, 3, 3, 2];

@@ -26,10 +26,6 @@ fn fill(s: &mut [u8], salt: usize)
 }
 
 // The first n bytes of s, or all.
-fn first(s: &[u8], n: usize) -> &[u8] {
-    if n < s.len() { &s[..n] } else { s }
-}
-
 fn first_mut(s: &mut [u8], n: usize) -> &mut [u8] {
     if n < s.len() { &mut s[..n] } else { s }
 }
@@ -39,14 +35,10 @@ fn put_number(n: u64) {
     io::print_decimal(STDOUT_FILENO, n);
 }
 
+// A space and bytes, at most 48.
 fn put_bytes(s: &[u8]) {
+    let mut shown = [0u8; 96];
+    let n = hex::show(s, &mut shown);
     io::write_all(STDOUT_FILENO, b" ");
-    if s.len() == 0 {
-        io::write_all(STDOUT_FILENO, b"-");
-    }
-    let mut i = 0;
-    while i < s.len() {
-        io::print_hex(STDOUT_FILENO, words::wide(s[i]), 2);
-        i += 1;
-    }
+    io::write_all(STDOUT_FILENO, words::first(&shown, n));
 }
