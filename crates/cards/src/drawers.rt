@@ -1,15 +1,18 @@
 // The drawer file: its state is replaced before the number that it gave is used, and while that is under way a file
 // beside it keeps every other `cards` from drawing.
-use crate::first;
 use crate::inputs;
+use crate::names;
 use crate::options;
 use crate::options::Options;
 use crate::outputs;
 use crate::put;
 use crate::refusal;
 use crate::refusal::Refusal;
+use crate::text;
+use crate::text::Text;
 use drawer::Drawer;
-use office::kept::Kept;
+use kept::Kept;
+use words::first;
 
 // What was refused, or the drawer, and the file beside it, open for its next state.
 pub(crate) struct Held {
@@ -22,7 +25,7 @@ pub(crate) struct Held {
 pub(crate) fn start(o: Options) -> Refusal {
     let reader = (inputs::number(o, options::READER).value % 4294967296) as u32;
     let d = drawer::start(reader, inputs::number(o, options::COUNT).value);
-    let file = office::kept::keep(d);
+    let file = kept::keep(d);
     let r = outputs::claim_name(o, options::DRAWER);
     if r.number != 0 {
         return r;
@@ -59,11 +62,7 @@ pub(crate) fn spent(o: Options, number: u32) -> Refusal {
 
 // Keeps the next state, and then writes the output. Where something was refused, the drawer stays as it was.
 pub(crate) fn spend(o: Options, h: Held, next: Drawer, bad: Refusal, bytes: &[u8]) -> Refusal {
-    if bad.number != 0 {
-        let_go(o, h.fd);
-        return bad;
-    }
-    let taken = outputs::claim(o);
+    let taken = outputs::claim(bad, o);
     if taken.number != 0 {
         let_go(o, h.fd);
         return taken;
@@ -73,19 +72,15 @@ pub(crate) fn spend(o: Options, h: Held, next: Drawer, bad: Refusal, bytes: &[u8
         outputs::release(o);
         return kept;
     }
-    outputs::write(o, bytes)
+    outputs::write(kept, o, bytes)
 }
 
 // Takes the drawer: nobody else can until it is kept or let go.
 pub(crate) fn take(o: Options) -> Held {
-    let mut name = io::buffer();
-    let n = options::word(options::place(o, options::DRAWER), &mut name);
-    if is_link(&name[..n]) {
+    if is_link(options::word_of(o, options::DRAWER)) {
         return not_held(refusal::about(o, options::DRAWER, refusal::DAMAGED, refusal::LINK));
     }
-    let mut beside = [0u8; 8192];
-    let b = put_beside(&mut beside, &name[..n]);
-    let fd = os::create(first(&beside, b));
+    let fd = names::create(beside(o));
     if fd < 0 {
         return not_held(not_locked(o));
     }
@@ -117,9 +112,7 @@ fn not_locked(o: Options) -> Refusal {
 }
 
 fn opened(o: Options, fd: i32) -> Held {
-    let mut name = io::buffer();
-    let n = options::word(options::place(o, options::DRAWER), &mut name);
-    let from = os::open_update(&name[..n]);
+    let from = names::open_update(options::word_of(o, options::DRAWER));
     if from < 0 {
         return not_held(refusal::by_system(o, options::DRAWER, refusal::NOT_READ));
     }
@@ -139,45 +132,38 @@ fn opened(o: Options, fd: i32) -> Held {
 // The drawer in an open file. What has no places, as a pipe, is none, and reading it could take forever.
 pub(crate) fn kept_in(fd: i32) -> Kept {
     let mut file = [0u8; 45];
+    let n = read_start(fd, &mut file);
+    kept::recall(first(&file, n))
+}
+
+fn read_start(fd: i32, room: &mut [u8]) -> usize {
     if libc::lseek(fd, 0, libc::SEEK_END) < 0 {
-        return office::kept::recall(b"");
+        return 0;
     }
-    let n = io::count(libc::pread(fd, &mut file, 0), &file);
-    office::kept::recall(first(&file, n))
+    io::count(libc::pread(fd, room, 0), room)
 }
 
 // The name of the file that keeps the others out.
-pub(crate) fn put_beside(room: &mut [u8], name: &[u8]) -> usize {
-    let at = put(room, 0, name);
-    put(room, at, b".next")
+pub(crate) fn beside(o: Options) -> Text {
+    text::and(options::word_of(o, options::DRAWER), b".next")
 }
 
 // Puts the next state in the drawer's place and waits until that is on the disk.
 fn keep(o: Options, fd: i32, next: Drawer) -> Refusal {
-    let mut name = io::buffer();
-    let n = options::word(options::place(o, options::DRAWER), &mut name);
-    let mut beside = [0u8; 8192];
-    let b = put_beside(&mut beside, &name[..n]);
-    let file = office::kept::keep(next);
+    let file = kept::keep(next);
     let r = outputs::filled(o, options::DRAWER, fd, &file);
-    if r.number != 0 {
-        let_go(o, fd);
-        return r;
-    }
-    if os::rename(first(&beside, b), &name[..n]) != 0 {
-        let s = refusal::by_system(o, options::DRAWER, refusal::NOT_WRITTEN);
+    let s = outputs::put_in_place(r, o, options::DRAWER, beside(o));
+    if s.number != 0 {
         let_go(o, fd);
         return s;
     }
     libc::close(fd);
-    renamed(o, &name[..n])
+    renamed(o)
 }
 
 // Waits until the renaming is on the disk. A file system that has no such call says EINVAL.
-fn renamed(o: Options, name: &[u8]) -> Refusal {
-    let mut path = io::buffer();
-    let n = put_folder(&mut path, name);
-    let fd = os::open_read(first(&path, n));
+fn renamed(o: Options) -> Refusal {
+    let fd = names::open_read(folder(options::word_of(o, options::DRAWER)));
     if fd < 0 {
         return refusal::by_system(o, options::DRAWER, refusal::NOT_WRITTEN);
     }
@@ -190,32 +176,37 @@ fn renamed(o: Options, name: &[u8]) -> Refusal {
     refusal::by_system(o, options::DRAWER, refusal::NOT_WRITTEN)
 }
 
-// Puts the folder that a name lies in into room.
-fn put_folder(room: &mut [u8], name: &[u8]) -> usize {
+// The folder that a name lies in.
+fn folder(name: Text) -> Text {
+    let n = folder_end(first(&name.bytes, name.len));
+    if n == 0 {
+        return text::of(b".");
+    }
+    text::of(first(&name.bytes, n))
+}
+
+// Where the last slash of a name ends, 0 where it has none.
+fn folder_end(name: &[u8]) -> usize {
     let mut i = name.len();
     while i > 0 {
         if name[i - 1] == b'/' {
-            return put(room, 0, &name[..i]);
+            return i;
         }
         i -= 1;
     }
-    put(room, 0, b".")
+    0
 }
 
 fn let_go(o: Options, fd: i32) {
     libc::close(fd);
-    let mut name = io::buffer();
-    let n = options::word(options::place(o, options::DRAWER), &mut name);
-    let mut beside = [0u8; 8192];
-    let b = put_beside(&mut beside, &name[..n]);
-    os::unlink(first(&beside, b));
+    names::unlink(beside(o));
 }
 
 // Whether the name is that of a symbolic link: a new state would take the link's place and leave the old one where it
 // leads, to be drawn from again.
-fn is_link(name: &[u8]) -> bool {
+fn is_link(name: Text) -> bool {
     let mut path = io::buffer();
-    put(&mut path, 0, name);
+    put(&mut path, 0, first(&name.bytes, name.len));
     path[4095] = 0;
     let mut leads = [0u8; 1];
     libc::readlink(&path, &mut leads) >= 0

@@ -1,12 +1,14 @@
 // Inputs: files and standard input, raw or in hex, and what stands on the command line itself.
+use crate::names;
 use crate::options;
 use crate::options::Options;
 use crate::refusal;
 use crate::refusal::Refusal;
-use crate::same;
+use crate::text;
+use decimal::Decimal;
+use hex::Hex;
 use libc::STDIN_FILENO;
-use office::decimal::Decimal;
-use office::hex::Hex;
+use words::first;
 
 // What was refused, or how many bytes were read: as many as the room has, where there are more.
 pub(crate) struct Got {
@@ -34,32 +36,52 @@ pub(crate) fn refused(r: Refusal) -> Got {
 
 // Whether the option's word is `-`, which stands for a standard stream.
 pub(crate) fn is_dash(o: Options, option: usize) -> bool {
-    let mut w = io::buffer();
-    let n = options::word(options::place(o, option), &mut w);
-    option <= options::OUT && same(&w[..n], b"-")
+    option <= options::OUT && text::is(options::word_of(o, option), b"-")
 }
 
 // The option's word as a number.
 pub(crate) fn number(o: Options, option: usize) -> Decimal {
-    let mut w = io::buffer();
-    let n = options::word(options::place(o, option), &mut w);
-    office::decimal::number(&w[..n])
+    let w = options::word_of(o, option);
+    decimal::number(first(&w.bytes, w.len))
 }
 
-// Reads the input that the option names.
-pub(crate) fn read(o: Options, option: usize, room: &mut [u8]) -> Got {
-    if !options::given(o, option) || is_dash(o, option) {
-        return judged(o, option, true, taken_from(o, option, STDIN_FILENO, room));
+// Reads the input that the option names, or standard input. Where something was refused before, that is handed on and
+// nothing is read.
+pub(crate) fn read(before: Refusal, o: Options, option: usize, room: &mut [u8]) -> Got {
+    if before.number != 0 {
+        return refused(before);
     }
-    let mut name = io::buffer();
-    let n = options::word(options::place(o, option), &mut name);
-    let fd = os::open_read(&name[..n]);
+    let standard = !options::given(o, option) || is_dash(o, option);
+    let fd = if standard {
+        STDIN_FILENO
+    } else {
+        names::open_read(options::word_of(o, option))
+    };
     if fd < 0 {
         return refused(refusal::by_system(o, option, refusal::NOT_READ));
     }
     let t = taken_from(o, option, fd, room);
-    libc::close(fd);
-    judged(o, option, false, t)
+    if !standard {
+        libc::close(fd);
+    }
+    judged(o, option, standard, t)
+}
+
+// The same for an option that may be left out: the room's first bytes, as they are, then stand for the input.
+pub(crate) fn read_given(
+    before: Refusal,
+    o: Options,
+    option: usize,
+    otherwise: usize,
+    room: &mut [u8],
+) -> Got {
+    if options::given(o, option) {
+        return read(before, o, option, room);
+    }
+    Got {
+        refusal: before,
+        len: otherwise,
+    }
 }
 
 fn judged(o: Options, option: usize, standard: bool, t: Taken) -> Got {
@@ -115,7 +137,7 @@ fn ended(got: isize, not_hex: bool, len: usize) -> Taken {
 
 // Reads on to the end even where the room is full, since all of it must be hex.
 fn hex_from(fd: i32, room: &mut [u8]) -> Taken {
-    let mut h = office::hex::begin();
+    let mut h = hex::begin();
     let mut chunk = io::large_buffer();
     let mut turns: u64 = 18446744073709551615;
     while turns > 0 {
@@ -124,7 +146,7 @@ fn hex_from(fd: i32, room: &mut [u8]) -> Taken {
         if n == 0 {
             return ended(got, !whole(h), h.len);
         }
-        h = office::hex::take_in(h, &chunk[..n], room);
+        h = hex::take_in(h, &chunk[..n], room);
         turns -= 1;
     }
     ended(0, true, 0)

@@ -8,6 +8,7 @@ mod drawers; // drawers.rt: the drawer file, start and draw
 mod help; // help.rt
 mod inputs; // inputs.rt: files and standard input, raw or in hex
 mod keys; // keys.rt: a key from its file or from key books
+mod names; // names.rt: files by name
 mod options; // options.rt: the command line
 mod outputs; // outputs.rt: files written beside and renamed, and standard output
 mod refusal; // refusal.rt: what was refused, and its line
@@ -15,6 +16,7 @@ mod rooms; // rooms.rt: the largest arrays
 mod rules; // rules.rt: which options go together
 mod sealing; // sealing.rt: seal and open
 mod tables; // tables.rt: words by their numbers
+mod text; // text.rt: names and lines by value
 mod wide; // wide.rt: encipher and decipher
 
 fn main() {
@@ -42,69 +44,37 @@ fn fill_closed() {
 
 fn run() -> Refusal {
     let command = options::command();
-    if command == options::HELP {
-        return help::help();
+    match command {
+        0 => options::no_command(),
+        options::HELP => help::help(),
+        _ => run_with_options(command),
     }
-    if command == 0 {
-        return options::no_command();
-    }
+}
+
+fn run_with_options(command: usize) -> Refusal {
     let p = options::parse(command);
-    let bad = p.bad;
-    if bad.number != 0 {
-        return bad;
+    let r = refusal::or(p.bad, rules::judged(command, p.options));
+    if r.number != 0 {
+        return r;
     }
-    let o = p.options;
-    let against = rules::judged(command, o);
-    if against.number != 0 {
-        return against;
-    }
-    done_by(command, o)
+    done_by(command, p.options)
 }
 
 fn done_by(command: usize, o: Options) -> Refusal {
-    if command == options::SEAL {
-        return sealing::seal(o);
+    match command {
+        options::SEAL => sealing::seal(o),
+        options::OPEN => sealing::open(o),
+        options::ENCIPHER => wide::encipher(o),
+        options::DECIPHER => wide::decipher(o),
+        options::DIGEST => digests::digest(o),
+        options::DRAW => drawers::draw(o),
+        _ => drawers::start(o),
     }
-    if command == options::OPEN {
-        return sealing::open(o);
-    }
-    if command == options::ENCIPHER {
-        return wide::encipher(o);
-    }
-    if command == options::DECIPHER {
-        return wide::decipher(o);
-    }
-    if command == options::DIGEST {
-        return digests::digest(o);
-    }
-    if command == options::DRAW {
-        return drawers::draw(o);
-    }
-    drawers::start(o)
 }
 
 // The first n bytes of s, or all.
-fn first(s: &[u8], n: usize) -> &[u8] {
-    if n < s.len() { &s[..n] } else { s }
-}
-
 fn first_mut(s: &mut [u8], n: usize) -> &mut [u8] {
     if n < s.len() { &mut s[..n] } else { s }
-}
-
-// Whether two words are the same.
-fn same(s: &[u8], t: &[u8]) -> bool {
-    if s.len() != t.len() {
-        return false;
-    }
-    let mut i = 0;
-    while i < s.len() {
-        if s[i] != t[i] {
-            return false;
-        }
-        i += 1;
-    }
-    true
 }
 
 // Puts s into room from at on, as far as it fits, and answers where it ends.

@@ -1,10 +1,10 @@
 // The command line: a command, and options that each name a file, a number or words.
-use crate::put;
 use crate::refusal;
 use crate::refusal::Refusal;
-use crate::same;
 use crate::tables;
-ghost use Rattle.io.specs.Counts.{Counts};
+use crate::text;
+use crate::text::Text;
+use words::first;
 
 pub(crate) const SEAL: usize = 1;
 
@@ -21,6 +21,18 @@ pub(crate) const DRAW: usize = 6;
 pub(crate) const START: usize = 7;
 
 pub(crate) const HELP: usize = 8;
+
+const COMMANDS: [u8; 81] = *b"1 seal
+2 open
+3 encipher
+4 decipher
+5 digest
+6 draw
+7 start
+8 help
+8 --help
+8 -h
+";
 
 // The options; up to OUT each has a twin in hex, and `-` stands for a standard stream.
 pub(crate) const KEY: usize = 1;
@@ -52,6 +64,34 @@ pub(crate) const COUNT: usize = 13;
 pub(crate) const LENGTH: usize = 14;
 
 pub(crate) const FORCE: usize = 15;
+
+const NAMES: [u8; 151] = *b"1 --key
+2 --book
+3 --last-book
+4 --nonce
+5 --iv
+6 --data
+7 --in
+8 --out
+9 --label
+10 --class
+11 --drawer
+12 --reader
+13 --count
+14 --length
+15 --force
+";
+
+// The twins.
+const HEX_NAMES: [u8; 104] = *b"1 --key-hex
+2 --book-hex
+3 --last-book-hex
+4 --nonce-hex
+5 --iv-hex
+6 --data-hex
+7 --in-hex
+8 --out-hex
+";
 
 // For each option where its word stands on the command line, 0 where it is not given, and whether it is in hex.
 pub(crate) struct Options {
@@ -105,14 +145,19 @@ pub(crate) fn printed(o: Options) -> Options {
     Options { at: at, hex: hex }
 }
 
-// Puts the word at this place of the command line into room, none at 0, and answers its length.
-pub(crate) fn word(place: usize, room: &mut [u8; 4096]) -> usize
-    ensures { λ r. ⌜ Counts r (now (room .exit)) ⌝ }
-{
+// The word at this place of the command line, none at 0.
+pub(crate) fn word(place: usize) -> Text {
     if place == 0 {
-        return 0;
+        return text::of(b"");
     }
-    os::arg(place, room)
+    let mut w = io::buffer();
+    let n = os::arg(place, &mut w);
+    text::of(&w[..n])
+}
+
+// The option's word.
+pub(crate) fn word_of(o: Options, option: usize) -> Text {
+    word(place(o, option))
 }
 
 // The first word's command, 0 for none.
@@ -120,43 +165,12 @@ pub(crate) fn command() -> usize {
     if os::arg_count() < 2 {
         return 0;
     }
-    let mut w = io::buffer();
-    let n = word(1, &mut w);
-    command_of(&w[..n])
+    command_of(word(1))
 }
 
 // The command of this name, 0 for none.
-pub(crate) fn command_of(w: &[u8]) -> usize {
-    if same(w, b"--help") || same(w, b"-h") {
-        return HELP;
-    }
-    let mut command = SEAL;
-    while command <= HELP {
-        if is_command(w, command) {
-            return command;
-        }
-        command += 1;
-    }
-    0
-}
-
-fn is_command(w: &[u8], command: usize) -> bool {
-    let mut name = [0u8; 16];
-    let n = tables::put_entry(
-        &mut name,
-        0,
-        command as u64,
-        b"1 seal
-2 open
-3 encipher
-4 decipher
-5 digest
-6 draw
-7 start
-8 help
-",
-    );
-    same(w, crate::first(&name, n))
+pub(crate) fn command_of(w: Text) -> usize {
+    tables::number_of(&COMMANDS, first(&w.bytes, w.len)) as usize
 }
 
 pub(crate) fn no_command() -> Refusal {
@@ -197,15 +211,17 @@ fn next(command: usize, p: Parsed, i: usize) -> Parsed {
     if bad.number != 0 {
         return p;
     }
-    let mut w = io::buffer();
-    let n = os::arg(i, &mut w);
+    let w = word(i);
     if os::errno() != 0 {
         return against(p, i, refusal::TOO_LONG);
     }
     if p.waits != 0 {
         return with_word(p, p.waits, i);
     }
-    let named = option_of(&w[..n]);
+    with_option(command, p, i, option_of(w))
+}
+
+fn with_option(command: usize, p: Parsed, i: usize, named: Named) -> Parsed {
     if !takes(command, named.option) {
         return against(p, i, refusal::NO_SUCH_OPTION);
     }
@@ -271,78 +287,21 @@ fn takes(command: usize, option: usize) -> bool {
     }
 }
 
-fn option_of(w: &[u8]) -> Named {
-    let plain = option_named(w);
+fn option_of(w: Text) -> Named {
+    let plain = tables::number_of(&NAMES, first(&w.bytes, w.len)) as usize;
     if plain != 0 {
         return Named {
             option: plain,
             hex: false,
         };
     }
-    let option = option_named(without_hex(w));
-    if option > OUT {
-        return Named {
-            option: 0,
-            hex: false,
-        };
-    }
     Named {
-        option: option,
+        option: tables::number_of(&HEX_NAMES, first(&w.bytes, w.len)) as usize,
         hex: true,
     }
 }
 
-// A word without the -hex at its end, or nothing where it has none.
-fn without_hex(w: &[u8]) -> &[u8] {
-    let n = w.len();
-    if n < 4 {
-        return &w[..0];
-    }
-    let end = n - 4;
-    if !same(&w[end..], b"-hex") {
-        return &w[..0];
-    }
-    &w[..end]
-}
-
-// The option of this name, 0 for none.
-fn option_named(w: &[u8]) -> usize {
-    let mut option = 1;
-    while option < 16 {
-        if is_name(w, option) {
-            return option;
-        }
-        option += 1;
-    }
-    0
-}
-
-fn is_name(w: &[u8], option: usize) -> bool {
-    let mut name = [0u8; 16];
-    let n = put_name(&mut name, 0, option);
-    same(w, crate::first(&name, n))
-}
-
-pub(crate) fn put_name(line: &mut [u8], at: usize, option: usize) -> usize {
-    tables::put_entry(
-        line,
-        at,
-        option as u64,
-        b"1 --key
-2 --book
-3 --last-book
-4 --nonce
-5 --iv
-6 --data
-7 --in
-8 --out
-9 --label
-10 --class
-11 --drawer
-12 --reader
-13 --count
-14 --length
-15 --force
-",
-    )
+// The option's name.
+pub(crate) fn name(option: usize) -> Text {
+    text::of(tables::entry(&NAMES, option as u64))
 }

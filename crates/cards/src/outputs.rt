@@ -1,21 +1,20 @@
 // Outputs: standard output, or a file that is written beside its place and then takes it.
 use crate::drawers;
 use crate::inputs;
+use crate::names;
 use crate::options;
 use crate::options::Options;
-use crate::put;
 use crate::refusal;
 use crate::refusal::Refusal;
+use crate::text;
+use crate::text::Text;
 use libc::STDOUT_FILENO;
 ghost use Prim.Native.Nat.{_≤_, _<_};
 
-// Takes the output's name, so that no file is replaced unless --force asks for it, and writes the bytes.
-pub(crate) fn finish(o: Options, bytes: &[u8]) -> Refusal {
-    let r = claim(o);
-    if r.number != 0 {
-        return r;
-    }
-    write(o, bytes)
+// Takes the output's name, so that no file is replaced unless --force asks for it, and writes the bytes. Where something
+// was refused before, that is handed on and nothing is done, here and in claim and write.
+pub(crate) fn finish(before: Refusal, o: Options, bytes: &[u8]) -> Refusal {
+    write(claim(before, o), o, bytes)
 }
 
 fn is_standard(o: Options) -> bool {
@@ -23,20 +22,19 @@ fn is_standard(o: Options) -> bool {
 }
 
 // Takes the name of the output by an empty file, or sees that --force would replace a file and nothing else.
-pub(crate) fn claim(o: Options) -> Refusal {
-    if is_standard(o) {
-        return refusal::none();
+pub(crate) fn claim(before: Refusal, o: Options) -> Refusal {
+    if before.number != 0 || is_standard(o) {
+        return before;
     }
     claim_name(o, options::OUT)
 }
 
 pub(crate) fn claim_name(o: Options, option: usize) -> Refusal {
-    let mut name = io::buffer();
-    let n = options::word(options::place(o, option), &mut name);
+    let name = options::word_of(o, option);
     if options::given(o, options::FORCE) {
-        return replaceable(o, &name[..n]);
+        return replaceable(o, name);
     }
-    let fd = os::create(&name[..n]);
+    let fd = names::create(name);
     if fd >= 0 {
         libc::close(fd);
         return refusal::none();
@@ -47,8 +45,8 @@ pub(crate) fn claim_name(o: Options, option: usize) -> Refusal {
     refusal::by_system(o, option, refusal::NOT_WRITTEN)
 }
 
-fn replaceable(o: Options, name: &[u8]) -> Refusal {
-    let fd = os::open_update(name);
+fn replaceable(o: Options, name: Text) -> Refusal {
+    let fd = names::open_update(name);
     if fd < 0 {
         if os::errno() == libc::ENOENT {
             return refusal::none();
@@ -85,14 +83,15 @@ pub(crate) fn release(o: Options) {
 
 pub(crate) fn release_name(o: Options, option: usize) {
     if !options::given(o, options::FORCE) {
-        let mut name = io::buffer();
-        let n = options::word(options::place(o, option), &mut name);
-        os::unlink(&name[..n]);
+        names::unlink(options::word_of(o, option));
     }
 }
 
 // Writes the output, whose name is taken.
-pub(crate) fn write(o: Options, bytes: &[u8]) -> Refusal {
+pub(crate) fn write(before: Refusal, o: Options, bytes: &[u8]) -> Refusal {
+    if before.number != 0 {
+        return before;
+    }
     if !is_standard(o) {
         return write_file(o, options::OUT, bytes);
     }
@@ -104,42 +103,45 @@ pub(crate) fn write(o: Options, bytes: &[u8]) -> Refusal {
 
 // Writes the file that the option names, beside it first.
 pub(crate) fn write_file(o: Options, option: usize, bytes: &[u8]) -> Refusal {
-    let mut name = io::buffer();
-    let n = options::word(options::place(o, option), &mut name);
-    let mut beside = [0u8; 8192];
-    let b = put_beside(&mut beside, &name[..n]);
-    let r = written(o, option, crate::first(&beside, b), &name[..n], bytes);
+    let r = written(o, option, beside(o, option), bytes);
     if r.number != 0 {
         release_name(o, option);
     }
     r
 }
 
-// The name with the number of this process and `.part` behind it.
-fn put_beside(room: &mut [u8], name: &[u8]) -> usize {
-    let mut at = put(room, 0, name);
-    at = put(room, at, b".");
-    at = refusal::put_number(room, at, crate::natural(libc::getpid()) as u64);
-    put(room, at, b".part")
+// The option's name with the number of this process and `.part` behind it.
+fn beside(o: Options, option: usize) -> Text {
+    let pid = crate::natural(libc::getpid()) as u64;
+    text::and_text(
+        options::word_of(o, option),
+        text::number(b".", pid, b".part"),
+    )
 }
 
-fn written(o: Options, option: usize, beside: &[u8], name: &[u8], bytes: &[u8]) -> Refusal {
-    let fd = os::create(beside);
+fn written(o: Options, option: usize, beside: Text, bytes: &[u8]) -> Refusal {
+    let fd = names::create(beside);
     if fd < 0 {
         return refusal::by_system(o, option, refusal::NOT_WRITTEN);
     }
     let r = filled(o, option, fd, bytes);
     libc::close(fd);
-    if r.number != 0 {
-        os::unlink(beside);
-        return r;
+    let s = put_in_place(r, o, option, beside);
+    if s.number != 0 {
+        names::unlink(beside);
     }
-    if os::rename(beside, name) != 0 {
-        let s = refusal::by_system(o, option, refusal::NOT_WRITTEN);
-        os::unlink(beside);
-        return s;
+    s
+}
+
+// Gives the file beside it the name that the option names, unless something was refused before.
+pub(crate) fn put_in_place(before: Refusal, o: Options, option: usize, beside: Text) -> Refusal {
+    if before.number != 0 {
+        return before;
     }
-    refusal::none()
+    if names::rename(beside, options::word_of(o, option)) == 0 {
+        return refusal::none();
+    }
+    refusal::by_system(o, option, refusal::NOT_WRITTEN)
 }
 
 // Writes all to a file and waits until it is on the disk.
@@ -180,8 +182,8 @@ fn chunk_end(at: usize, len: usize) -> usize
 
 fn chunk_sent(fd: i32, bytes: &[u8]) -> bool {
     let mut digits = io::buffer();
-    office::hex::spell(bytes, &mut digits);
-    io::write_all(fd, crate::first(&digits, twice(bytes.len())))
+    hex::spell(bytes, &mut digits);
+    io::write_all(fd, words::first(&digits, twice(bytes.len())))
 }
 
 fn twice(n: usize) -> usize {

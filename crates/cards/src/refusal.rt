@@ -1,10 +1,11 @@
 // What was refused: the number, the option and the word of the command line that it is about, and why.
 use crate::options;
 use crate::options::Options;
-use crate::put;
-use crate::same;
 use crate::tables;
+use crate::text;
+use crate::text::Text;
 use libc::STDERR_FILENO;
+use words::first;
 
 pub(crate) struct Refusal {
     pub number: u32,
@@ -81,77 +82,8 @@ pub(crate) const WIDE: usize = 1028;
 
 pub(crate) const TEXT_1048576: usize = 1029;
 
-// Nothing.
-pub(crate) fn none() -> Refusal {
-    Refusal {
-        number: 0,
-        option: 0,
-        hex: false,
-        word: 0,
-        why: NO_REASON,
-    }
-}
-
-// Of an option.
-pub(crate) fn about(o: Options, option: usize, number: u32, why: usize) -> Refusal {
-    Refusal {
-        number: number,
-        option: option,
-        hex: options::in_hex(o, option),
-        word: options::place(o, option),
-        why: why,
-    }
-}
-
-// Of an option, where the system refused, for the reason that it gave last.
-pub(crate) fn by_system(o: Options, option: usize, number: u32) -> Refusal {
-    about(o, option, number, error())
-}
-
-// The error number that the system gave last.
-pub(crate) fn error() -> usize {
-    crate::natural(os::errno())
-}
-
-// Of a word of the command line.
-pub(crate) fn of_word(word: usize, why: usize) -> Refusal {
-    Refusal {
-        number: COMMAND_LINE,
-        option: 0,
-        hex: false,
-        word: word,
-        why: why,
-    }
-}
-
-// Writes the last line in one piece: `done`, or what was refused.
-pub(crate) fn last_line(r: Refusal) {
-    let mut line = [0u8; 8192];
-    let end = line_of(r, &mut line);
-    io::write_all(STDERR_FILENO, crate::first(&line, end));
-}
-
-fn line_of(r: Refusal, line: &mut [u8]) -> usize {
-    if r.number == 0 {
-        return put(line, 0, b"done\n");
-    }
-    let mut at = put(line, 0, b"refused ");
-    at = put_number(line, at, r.number as u64);
-    at = put(line, at, b" ");
-    at = put_words(line, at, r.number);
-    at = put(line, at, b": ");
-    at = put_about(line, at, r);
-    at = put_reason(line, at, r);
-    put(line, at, b"\n")
-}
-
 // The words of document 01, of document 02 for 12 and 15, and the tool's own.
-fn put_words(line: &mut [u8], at: usize, number: u32) -> usize {
-    tables::put_entry(
-        line,
-        at,
-        number as u64,
-        b"1 key has a wrong length
+const WORDS: [u8; 468] = *b"1 key has a wrong length
 2 nonce or iv has a wrong length
 3 associated data too long
 4 text or block length not allowed
@@ -169,81 +101,10 @@ fn put_words(line: &mut [u8], at: usize, number: u32) -> usize {
 105 not hex
 106 drawer file damaged
 107 drawer in use
-",
-    )
-}
+";
 
-// The option as it was given and its word, or the standard stream that stands for it.
-fn put_about(line: &mut [u8], at: usize, r: Refusal) -> usize {
-    let mut word = io::buffer();
-    let n = options::word(r.word, &mut word);
-    if r.option == 0 {
-        return put_shown(line, at, &word[..n]);
-    }
-    if r.number != COMMAND_LINE && is_standard(r, &word[..n]) {
-        return put_standard(line, at, r.option);
-    }
-    let end = put_option(line, at, r.option, r.hex);
-    if r.word == 0 {
-        return end;
-    }
-    put_word(line, end, &word[..n])
-}
-
-fn put_option(line: &mut [u8], at: usize, option: usize, hex: bool) -> usize {
-    let end = options::put_name(line, at, option);
-    if hex {
-        return put(line, end, b"-hex");
-    }
-    end
-}
-
-fn put_word(line: &mut [u8], at: usize, word: &[u8]) -> usize {
-    let end = put(line, at, b" ");
-    put_shown(line, end, word)
-}
-
-// Whether a standard stream stands for the option.
-fn is_standard(r: Refusal, word: &[u8]) -> bool {
-    r.option <= options::OUT && (r.word == 0 || same(word, b"-"))
-}
-
-fn put_standard(line: &mut [u8], at: usize, option: usize) -> usize {
-    if option == options::OUT {
-        return put(line, at, b"standard output");
-    }
-    put(line, at, b"standard input")
-}
-
-// A word without its control characters, so that it cannot look like a line of its own.
-fn put_shown(line: &mut [u8], at: usize, word: &[u8]) -> usize {
-    let mut end = at;
-    let mut i = 0;
-    while i < word.len() {
-        end = put(line, end, &[shown(word[i])]);
-        i += 1;
-    }
-    end
-}
-
-fn shown(b: u8) -> u8 {
-    if b < 32 || b == 127 {
-        return b'?';
-    }
-    b
-}
-
-// Why, in brackets. Numbers up to 1000 are the system's errors.
-fn put_reason(line: &mut [u8], at: usize, r: Refusal) -> usize {
-    if r.why == NO_REASON {
-        return at;
-    }
-    let start = put(line, at, b" (");
-    let end = tables::put_entry(
-        line,
-        start,
-        r.why as u64,
-        b"1 permission denied
+// Numbers up to 1000 are the system's errors.
+const REASONS: [u8; 1040] = *b"1 permission denied
 2 no such file or directory
 5 input or output error
 9 not open
@@ -281,23 +142,123 @@ fn put_reason(line: &mut [u8], at: usize, r: Refusal) -> usize {
 1027 must be 65535 bytes or fewer
 1028 must be 33 to 1048608 bytes
 1029 must be 1048576 bytes or fewer
-",
-    );
-    let close = or_number(line, start, end, r.why);
-    put(line, close, b")")
-}
+";
 
-// An error that the table does not have, by its number.
-fn or_number(line: &mut [u8], start: usize, end: usize, why: usize) -> usize {
-    if end != start {
-        return end;
+// Nothing.
+pub(crate) fn none() -> Refusal {
+    Refusal {
+        number: 0,
+        option: 0,
+        hex: false,
+        word: 0,
+        why: NO_REASON,
     }
-    let at = put(line, start, b"error ");
-    put_number(line, at, why as u64)
 }
 
-pub(crate) fn put_number(line: &mut [u8], at: usize, n: u64) -> usize {
-    let mut digits = [0u8; 20];
-    let k = io::decimal(n, &mut digits);
-    put(line, at, &digits[..k])
+// The first of two that refuses.
+pub(crate) fn or(r: Refusal, s: Refusal) -> Refusal {
+    if r.number != 0 { r } else { s }
+}
+
+// Of an option.
+pub(crate) fn about(o: Options, option: usize, number: u32, why: usize) -> Refusal {
+    Refusal {
+        number: number,
+        option: option,
+        hex: options::in_hex(o, option),
+        word: options::place(o, option),
+        why: why,
+    }
+}
+
+// Of an option, where the system refused, for the reason that it gave last.
+pub(crate) fn by_system(o: Options, option: usize, number: u32) -> Refusal {
+    about(o, option, number, error())
+}
+
+// The error number that the system gave last.
+pub(crate) fn error() -> usize {
+    crate::natural(os::errno())
+}
+
+// Of a word of the command line.
+pub(crate) fn of_word(word: usize, why: usize) -> Refusal {
+    Refusal {
+        number: COMMAND_LINE,
+        option: 0,
+        hex: false,
+        word: word,
+        why: why,
+    }
+}
+
+// Writes the last line in one piece: `done`, or what was refused.
+pub(crate) fn last_line(r: Refusal) {
+    let line = line_of(r);
+    io::write_all(STDERR_FILENO, first(&line.bytes, line.len));
+}
+
+fn line_of(r: Refusal) -> Text {
+    if r.number == 0 {
+        return text::of(b"done\n");
+    }
+    let number = text::number(b"refused ", r.number as u64, b" ");
+    let words = text::and_text(number, words_of(r.number));
+    let about = with_about(text::and(words, b": "), r, options::word(r.word));
+    text::and(with_reason(about, r.why), b"\n")
+}
+
+fn words_of(number: u32) -> Text {
+    text::of(tables::entry(&WORDS, number as u64))
+}
+
+// The option as it was given and its word, or the standard stream that stands for it.
+fn with_about(line: Text, r: Refusal, word: Text) -> Text {
+    if r.option == 0 {
+        return text::and_text(line, text::shown(word));
+    }
+    if r.number != COMMAND_LINE && is_standard(r, word) {
+        return with_standard(line, r.option);
+    }
+    let named = with_option(line, r.option, r.hex);
+    if r.word == 0 {
+        return named;
+    }
+    text::and_text(text::and(named, b" "), text::shown(word))
+}
+
+fn with_option(line: Text, option: usize, hex: bool) -> Text {
+    let named = text::and_text(line, options::name(option));
+    if hex {
+        return text::and(named, b"-hex");
+    }
+    named
+}
+
+// Whether a standard stream stands for the option.
+fn is_standard(r: Refusal, word: Text) -> bool {
+    r.option <= options::OUT && (r.word == 0 || text::is(word, b"-"))
+}
+
+fn with_standard(line: Text, option: usize) -> Text {
+    if option == options::OUT {
+        return text::and(line, b"standard output");
+    }
+    text::and(line, b"standard input")
+}
+
+fn reason_of(why: usize) -> Text {
+    text::of(tables::entry(&REASONS, why as u64))
+}
+
+// Why, in brackets; an error that the table does not have by its number.
+fn with_reason(line: Text, why: usize) -> Text {
+    if why == NO_REASON {
+        return line;
+    }
+    let reason = reason_of(why);
+    if reason.len == 0 {
+        return text::and_text(line, text::number(b" (error ", why as u64, b")"));
+    }
+    text::and(text::and_text(text::and(line, b" ("), reason), b")")
 }

@@ -3,6 +3,20 @@
 ghost use mathlib.Core.Path.{_≡_};
 ghost use lib.ListN.{length};
 
+// For associated data.
+pub(crate) fn data() -> [u8; 65537]
+    ensures { λ r. ⌜ 65537 ≡ length r ⌝ }
+{
+    [0; 65537]
+}
+
+// For a card.
+pub(crate) fn card() -> [u8; 65566]
+    ensures { λ r. ⌜ 65566 ≡ length r ⌝ }
+{
+    [0; 65566]
+}
+
 // For an iv and a wide block.
 pub(crate) fn wide_file() -> [u8; 1048657]
     ensures { λ r. ⌜ 1048657 ≡ length r ⌝ }

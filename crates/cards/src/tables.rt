@@ -1,33 +1,31 @@
 // Tables of words: lines that are a number, a space, and what belongs to it.
-ghost use Prim.Native.Nat.{_≤_};
-ghost use lib.ListN.{length};
-use crate::put;
+use words::find;
+use words::same;
 
-// Puts what the table has for the number into room from at on, nothing where it has none, and answers where that ends.
-pub(crate) fn put_entry(room: &mut [u8], at: usize, number: u64, table: &[u8]) -> usize {
+// What the table has for the number, nothing where it has none.
+pub(crate) fn entry(table: &[u8], number: u64) -> &[u8] {
     let mut i = 0;
     while i < table.len() {
         let end = find(table, i, table.len(), b'\n');
         let gap = find(table, i, end, b' ');
-        if gap < end && office::decimal::number(&table[i..gap]).value == number {
-            return put(room, at, &table[gap + 1..end]);
+        if gap < end && decimal::number(&table[i..gap]).value == number {
+            return &table[gap + 1..end];
         }
         i = end + 1;
     }
-    at
+    &table[..0]
 }
 
-// Where the byte is first, or the end.
-fn find(s: &[u8], from: usize, to: usize, b: u8) -> usize
-    requires { ⌜ (from ≤ to) × (to ≤ length (now s)) ⌝ }
-    ensures { λ r. ⌜ (from ≤ r) × (r ≤ to) ⌝ }
-{
-    let mut i = from;
-    while i < to {
-        if s[i] == b {
-            return i;
+// The number of the first line that has this word, 0 where none has it.
+pub(crate) fn number_of(table: &[u8], word: &[u8]) -> u64 {
+    let mut i = 0;
+    while i < table.len() {
+        let end = find(table, i, table.len(), b'\n');
+        let gap = find(table, i, end, b' ');
+        if gap < end && same(&table[gap + 1..end], word) {
+            return decimal::number(&table[i..gap]).value;
         }
-        i += 1;
+        i = end + 1;
     }
-    to
+    0
 }

@@ -1,6 +1,5 @@
 // encipher and decipher.
 use crate::drawers;
-use crate::first;
 use crate::first_mut;
 use crate::inputs;
 use crate::options;
@@ -10,52 +9,47 @@ use crate::put;
 use crate::refusal;
 use crate::refusal::Refusal;
 use crate::rooms;
+use words::first;
 
 // Enciphers a block, which stands behind its iv.
 pub(crate) fn encipher(o: Options) -> Refusal {
     let mut key = [0u8; 129];
-    let k = inputs::read(o, options::KEY, &mut key);
-    let bad = k.refusal;
-    if bad.number != 0 {
-        return bad;
-    }
-    let mut file = rooms::wide_file();
-    if options::given(o, options::DRAWER) {
-        return encipher_drawn(o, first(&key, k.len), &mut file);
-    }
-    encipher_given(o, first(&key, k.len), &mut file)
-}
-
-fn encipher_given(o: Options, key: &[u8], file: &mut [u8]) -> Refusal {
     let mut iv = [0u8; 49];
-    let i = inputs::read(o, options::IV, &mut iv);
-    let bad = i.refusal;
-    if bad.number != 0 {
-        return bad;
-    }
-    let b = inputs::read(o, options::IN, behind_iv(file));
-    let worse = b.refusal;
-    if worse.number != 0 {
-        return worse;
-    }
-    let number = enciphered(key, first(&iv, i.len), file, b.len);
-    if number != 0 {
-        return refused(o, options::IV, number);
-    }
-    outputs::finish(o, first(file, with_iv(b.len)))
+    let mut file = rooms::wide_file();
+    let k = inputs::read(refusal::none(), o, options::KEY, &mut key);
+    let i = inputs::read_given(k.refusal, o, options::IV, 0, &mut iv);
+    let b = inputs::read(i.refusal, o, options::IN, behind_iv(&mut file));
+    let r = b.refusal;
+    encipher_under(
+        r,
+        o,
+        first(&key, k.len),
+        first(&iv, i.len),
+        &mut file,
+        b.len,
+    )
 }
 
-fn encipher_drawn(o: Options, key: &[u8], file: &mut [u8]) -> Refusal {
-    let b = inputs::read(o, options::IN, behind_iv(file));
-    let worse = b.refusal;
-    if worse.number != 0 {
-        return worse;
+// The block has n bytes; the iv is the one that was read, or is drawn.
+fn encipher_under(
+    before: Refusal,
+    o: Options,
+    key: &[u8],
+    iv: &[u8],
+    file: &mut [u8],
+    n: usize,
+) -> Refusal {
+    if before.number != 0 {
+        return before;
     }
-    encipher_spending(o, key, file, b.len)
+    if options::given(o, options::DRAWER) {
+        return encipher_drawn(o, key, file, n);
+    }
+    let number = enciphered(key, iv, file, n);
+    outputs::finish(refused(o, options::IV, number), o, first(file, with_iv(n)))
 }
 
-// With an iv that is drawn, where the block of n bytes has been read.
-fn encipher_spending(o: Options, key: &[u8], file: &mut [u8], n: usize) -> Refusal {
+fn encipher_drawn(o: Options, key: &[u8], file: &mut [u8], n: usize) -> Refusal {
     let h = drawers::take(o);
     let bad = h.refusal;
     if bad.number != 0 {
@@ -65,11 +59,10 @@ fn encipher_spending(o: Options, key: &[u8], file: &mut [u8], n: usize) -> Refus
     let iv = drawn.bytes;
     let next = drawn.next;
     let number = enciphered(key, &iv, file, n);
-    let against = if number == 0 {
-        drawers::spent(o, drawn.number)
-    } else {
-        refused(o, options::IV, number)
-    };
+    let against = refusal::or(
+        refused(o, options::IV, number),
+        drawers::spent(o, drawn.number),
+    );
     drawers::spend(o, h, next, against, first(file, with_iv(n)))
 }
 
@@ -83,29 +76,22 @@ fn enciphered(key: &[u8], iv: &[u8], file: &mut [u8], n: usize) -> u32 {
 // Deciphers the block of a wide file.
 pub(crate) fn decipher(o: Options) -> Refusal {
     let mut key = [0u8; 129];
-    let k = inputs::read(o, options::KEY, &mut key);
-    let bad = k.refusal;
-    if bad.number != 0 {
-        return bad;
-    }
     let mut file = rooms::wide_file();
-    decipher_in(o, first(&key, k.len), &mut file)
+    let k = inputs::read(refusal::none(), o, options::KEY, &mut key);
+    let f = inputs::read(k.refusal, o, options::IN, &mut file);
+    let r = f.refusal;
+    decipher_in(r, o, first(&key, k.len), first_mut(&mut file, f.len))
 }
 
-fn decipher_in(o: Options, key: &[u8], file: &mut [u8]) -> Refusal {
-    let f = inputs::read(o, options::IN, file);
-    let bad = f.refusal;
-    if bad.number != 0 {
-        return bad;
+fn decipher_in(before: Refusal, o: Options, key: &[u8], file: &mut [u8]) -> Refusal {
+    if before.number != 0 {
+        return before;
     }
     let mut iv = [0u8; 48];
-    put(&mut iv, 0, first(file, 48));
-    let block = behind_iv(first_mut(file, f.len));
-    let number = lioness::decipher(key, first(&iv, f.len), block);
-    if number != 0 {
-        return refused(o, options::IN, number);
-    }
-    outputs::finish(o, block)
+    let n = put(&mut iv, 0, file);
+    let block = behind_iv(file);
+    let number = lioness::decipher(key, first(&iv, n), block);
+    outputs::finish(refused(o, options::IN, number), o, block)
 }
 
 // What stands behind the 48 bytes of an iv, nothing where there are fewer.
@@ -124,6 +110,7 @@ fn with_iv(n: usize) -> usize {
 // Which input a number of a wide block is about; the iv has an input of its own, or is a part of the wide file.
 fn refused(o: Options, iv: usize, number: u32) -> Refusal {
     match number {
+        0 => refusal::none(),
         1 => refusal::about(o, options::KEY, 1, refusal::KEY_128),
         2 => refusal::about(o, iv, 2, refusal::IV_48),
         _ => refusal::about(o, options::IN, number, refusal::WIDE),

@@ -1,16 +1,20 @@
-use Prim.Native.Nat.{_-_, _≤_}
+use Prim.Native.Nat.{_≤_}
+use lib.ListN.{length}
 use borrow.Author.Needs.{needs}
-use Rattle.cards.proofs.tables.find.Statement.{statement}
-use Rattle.cards.proofs.tables.find.Tie as tie
+use Rattle.cards.proofs.drawers.folder_end.Statement.{statement}
+use Rattle.cards.proofs.drawers.folder_end.Tie as tie
 
 abbrev Inv-loop : tie.InvT-loop
-Inv-loop s from to b i₀ i = (from ≤ i) × (i ≤ to)
+Inv-loop name i₀ i = i ≤ length name
 
 abbrev μ-loop : tie.MeasureT-loop
-μ-loop s from to b i₀ i = to - i
+μ-loop name i₀ i = i
 
 loop-holds : tie.Need-loop-holds Inv-loop μ-loop
 loop-holds c = search needs
+
+sub-if1 : tie.Need-sub-if1 Inv-loop μ-loop
+sub-if1 c = search needs
 
 shared-slice-read-if1 : tie.Need-shared-slice-read-if1 Inv-loop μ-loop
 shared-slice-read-if1 c = search needs
@@ -18,8 +22,8 @@ shared-slice-read-if1 c = search needs
 returns : tie.Need-returns Inv-loop μ-loop
 returns c = search needs
 
-add-i : tie.Need-add-i Inv-loop μ-loop
-add-i c = search needs
+sub-i : tie.Need-sub-i Inv-loop μ-loop
+sub-i c = search needs
 
 loop-less : tie.Need-loop-less Inv-loop μ-loop
 loop-less c = search needs
@@ -30,16 +34,17 @@ loop-again c = search needs
 returns-2 : tie.Need-returns-2 Inv-loop μ-loop
 returns-2 c = search needs
 
-pub find-spec : {M : Type 1} → statement M
-find-spec =
+pub folder-end-spec : {M : Type 1} → statement M
+folder-end-spec =
     tie.close
     (tie.spec
     Inv-loop
     μ-loop
     loop-holds
+    sub-if1
     shared-slice-read-if1
     returns
-    add-i
+    sub-i
     loop-less
     loop-again
     returns-2)
