@@ -1,6 +1,7 @@
 # `make` proves and builds the archive and the Rust crate over it, `make tool` the office's tool; `make install` puts header,
 # archive and a pkg-config file under PREFIX (and DESTDIR before it, for packages), `make install-tool` the tool and its man
-# page. `make check` is the whole gate, `make bench` the benchmark.
+# page. `make check` is the whole gate, `make wrong` tries the wrong programs that it does not try, `make bench` is the
+# benchmark.
 
 PREFIX ?= /usr/local
 includedir = $(PREFIX)/include
@@ -48,8 +49,11 @@ uninstall:
 check:
 	.ci/run
 
+wrong:
+	tools/wrong
+
 bench: $(archive)
 	tools/setup
 	bench/run
 
-.PHONY: all archive tool crate install install-tool uninstall check bench
+.PHONY: all archive tool crate install install-tool uninstall check wrong bench
