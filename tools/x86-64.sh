@@ -6,8 +6,9 @@ if [ "$(uname -m)" = x86_64 ]; then
     x86_cc=cc
     x86_cxx=c++
     x86_binutils=
-    x86_run=
-    x86_cargo() { cargo "$@"; }
+    # An emulator may be named here too, to see what the tests do on other machines.
+    x86_run=${VESPRULDO_RUNNER-}
+    x86_cargo() { env ${x86_run:+"CARGO_TARGET_X86_64_UNKNOWN_LINUX_GNU_RUNNER=$x86_run"} cargo "$@"; }
 else
     x86_cc=x86_64-linux-gnu-gcc
     x86_cxx=x86_64-linux-gnu-g++

@@ -4,9 +4,9 @@
 
 #include <string.h>
 
-/* Every so many rounds through the functions the lengths are the longest: such
-   a call takes as long as ten thousand others. */
-#define LONG_EVERY 1500
+/* Every so many rounds through the functions a length is the longest, or one
+   more: such a call takes as long as ten thousand others. */
+#define LONG_EVERY 500
 /* From here the key stream for the longest text ends with the last counter. */
 #define LAST_LONG_START (UINT32_MAX - 1048576 / 64 + 1)
 /* What a wide block has before its right part, and the nonce of one step. */
@@ -61,7 +61,7 @@ static size_t wrong_length(struct random *random, const struct part *part,
 }
 
 /* Finds the part whose turn it is to be long, and how long: each in turn as
-   long as is allowed, and then each in turn one byte longer. */
+   long as is allowed, and then each in turn one byte longer, but none again. */
 static size_t long_part(const struct function *function, size_t long_turn,
                         size_t *len)
 {
@@ -72,7 +72,7 @@ static size_t long_part(const struct function *function, size_t long_turn,
             places[found++] = p;
         }
     }
-    if (long_turn == 0 || found == 0) {
+    if (long_turn == 0 || long_turn > 2 * found) {
         return function->part_count;
     }
     size_t place = places[(long_turn - 1) % found];

@@ -23,7 +23,7 @@
 #define MOST_THREADS 1024
 /* From so many on, every number that a function promises must have come. The
    rarest is the refusal of a text that is too long. */
-#define CASES_FOR_ALL_NUMBERS 100000
+#define CASES_FOR_ALL_NUMBERS 30000
 
 static uint64_t cases;
 static unsigned thread_count;

@@ -1,6 +1,8 @@
 //! GIFT-128 on one block, both ways (document 01, GIFT-128; document 004,
 //! section 2.2).
 
+use std::sync::LazyLock;
+
 use crate::bits::Bits;
 
 /// "Forty rounds" (document 01, GIFT-128).
@@ -105,49 +107,98 @@ fn move_bits_back(state: &Bits) -> Bits {
     Bits::by_rule(|i| state.bit(moved(i)))
 }
 
-fn encipher_block(rounds: &[Round], block: &[u8; 16]) -> [u8; 16] {
-    let mut state = Bits::from_bytes(block);
-    for round in rounds {
-        state = state.each_nibble(|x| SBOX[usize::from(x)]);
-        state = move_bits(&state);
-        add_key(&mut state, &round.key);
-        add_constant(&mut state, &round.constant);
+/// Steps 3 and 4 of one round: what they add to the state, as a number.
+fn added(round: &Round) -> u128 {
+    let mut bits = Bits::by_rule(|_| false);
+    add_key(&mut bits, &round.key);
+    add_constant(&mut bits, &round.constant);
+    number(&bits)
+}
+
+/// What all rounds add under `key`, the first one first.
+fn additions(key: &[u8; 16]) -> Vec<u128> {
+    rounds(key).iter().map(added).collect()
+}
+
+fn number(bits: &Bits) -> u128 {
+    u128::from_le_bytes(bits.to_bytes())
+}
+
+/// What each nibble at each place becomes where all other bits are 0. Bit by bit
+/// a block would take twenty times as long; `one_step_after_another` in the
+/// tests does it so.
+type Table = [[u128; 16]; 32];
+
+fn table(rule: impl Fn(u128) -> u128) -> Table {
+    std::array::from_fn(|n| std::array::from_fn(|x| rule((x as u128) << (4 * n))))
+}
+
+/// The state of which each nibble became what the table says.
+fn by_table(table: &Table, mut state: u128) -> u128 {
+    let mut new = 0;
+    for nibble in table {
+        new ^= nibble[(state % 16) as usize];
+        state /= 16;
     }
-    state.to_bytes()
+    new
+}
+
+/// Each bit goes to a place of its own, so nibbles can be moved one by one.
+static MOVED: LazyLock<Table> =
+    LazyLock::new(|| table(|x| number(&move_bits(&Bits::from_bytes(&x.to_le_bytes())))));
+static MOVED_BACK: LazyLock<Table> =
+    LazyLock::new(|| table(|x| number(&move_bits_back(&Bits::from_bytes(&x.to_le_bytes())))));
+
+/// Steps 1 and 2.
+static FORWARD: LazyLock<Table> = LazyLock::new(|| {
+    let moved = &*MOVED;
+    std::array::from_fn(|n| std::array::from_fn(|x| moved[n][usize::from(SBOX[x])]))
+});
+
+/// Step 1 undone.
+static SBOX_BACK: LazyLock<Table> = LazyLock::new(|| {
+    std::array::from_fn(|n| std::array::from_fn(|y| u128::from(sbox_back(y as u8)) << (4 * n)))
+});
+
+fn encipher_block(additions: &[u128], block: &[u8; 16]) -> [u8; 16] {
+    let forward = &*FORWARD;
+    let mut state = u128::from_le_bytes(*block);
+    for added in additions {
+        state = by_table(forward, state) ^ added;
+    }
+    state.to_le_bytes()
 }
 
 /// "Deciphering undoes the rounds": the last round first, and in each round
 /// the last step first. Adding by exclusive or undoes itself.
-fn decipher_block(rounds: &[Round], block: &[u8; 16]) -> [u8; 16] {
-    let mut state = Bits::from_bytes(block);
-    for round in rounds.iter().rev() {
-        add_constant(&mut state, &round.constant);
-        add_key(&mut state, &round.key);
-        state = move_bits_back(&state);
-        state = state.each_nibble(sbox_back);
+fn decipher_block(additions: &[u128], block: &[u8; 16]) -> [u8; 16] {
+    let (moved_back, sbox_back) = (&*MOVED_BACK, &*SBOX_BACK);
+    let mut state = u128::from_le_bytes(*block);
+    for added in additions.iter().rev() {
+        state = by_table(sbox_back, by_table(moved_back, state ^ added));
     }
-    state.to_bytes()
+    state.to_le_bytes()
 }
 
 /// Either way: judges the lengths, then works on the block where it lies.
 /// "Where several apply, the smallest number is given" (document 01, What
 /// comes back), so the key is judged first.
-fn on_block(key: &[u8], block: &mut [u8], work: fn(&[Round], &[u8; 16]) -> [u8; 16]) -> u32 {
+fn on_block(key: &[u8], block: &mut [u8], work: fn(&[u128], &[u8; 16]) -> [u8; 16]) -> u32 {
     let Ok(key) = <&[u8; 16]>::try_from(key) else {
         return 1;
     };
     let Ok(block) = <&mut [u8; 16]>::try_from(block) else {
         return 4;
     };
-    *block = work(&rounds(key), block);
+    *block = work(&additions(key), block);
     0
 }
 
 /// Enciphering under `key` as a function of one block; the rounds are worked
 /// out once, however many blocks follow.
 pub fn under(key: &[u8; 16]) -> impl Fn(&[u8; 16]) -> [u8; 16] {
-    let rounds = rounds(key);
-    move |block| encipher_block(&rounds, block)
+    let additions = additions(key);
+    move |block| encipher_block(&additions, block)
 }
 
 /// Enciphers `block` under `key` where it lies and answers the document's
@@ -228,6 +279,29 @@ mod tests {
             assert_eq!(block, cipher);
             assert_eq!(decipher(&key, &mut block), 0);
             assert_eq!(block, plain);
+        }
+    }
+
+    /// Enciphering as the document has it, bit by bit.
+    fn one_step_after_another(key: &[u8; 16], block: &[u8; 16]) -> [u8; 16] {
+        let mut state = Bits::from_bytes(block);
+        for round in rounds(key) {
+            state = state.each_nibble(|x| SBOX[usize::from(x)]);
+            state = move_bits(&state);
+            add_key(&mut state, &round.key);
+            add_constant(&mut state, &round.constant);
+        }
+        state.to_bytes()
+    }
+
+    #[test]
+    fn the_tables_are_the_steps() {
+        let mut random = Random::new(4);
+        for _ in 0..2000 {
+            let [key, block] = [random.sixteen(), random.sixteen()];
+            let enciphered = one_step_after_another(&key, &block);
+            assert_eq!(encipher_block(&additions(&key), &block), enciphered);
+            assert_eq!(decipher_block(&additions(&key), &enciphered), block);
         }
     }
 

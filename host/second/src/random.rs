@@ -20,9 +20,14 @@ impl Random {
 
     /// Fills `room` with random-looking bytes.
     pub fn fill(&mut self, room: &mut [u8]) {
-        for part in room.chunks_mut(8) {
+        let mut parts = room.chunks_exact_mut(8);
+        for part in &mut parts {
+            part.copy_from_slice(&self.next_u64().to_le_bytes());
+        }
+        let rest = parts.into_remainder();
+        if !rest.is_empty() {
             let bytes = self.next_u64().to_le_bytes();
-            part.copy_from_slice(&bytes[..part.len()]);
+            rest.copy_from_slice(&bytes[..rest.len()]);
         }
     }
 

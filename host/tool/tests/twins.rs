@@ -16,7 +16,7 @@ use common::scene::Played;
 use common::{edges, orders, scene};
 
 const SCENES: u64 = 240;
-const SCENES_EMULATED: u64 = 44;
+const SCENES_EMULATED: u64 = 24;
 const THREADS: usize = 2;
 const FIRST_SEED: u64 = 5000;
 

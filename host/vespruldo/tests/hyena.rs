@@ -153,14 +153,22 @@ fn more_random_cards_agree_and_damage_is_refused() {
     compare_random_cards(62);
 }
 
+/// Under an emulator a wrong tag on the longest text is left to tests/guarded,
+/// which does it too.
+fn refuses_too(text_len: usize) -> bool {
+    text_len < LONGEST_TEXT || !emulated()
+}
+
 /// The short forms by themselves: both seal, open again and refuse another tag.
 fn compare_short_forms(random: &mut Random, text_len: usize) {
     let [key, nonce, text, room] = [16, 12, text_len, text_len].map(|len| random.bytes(len));
     let [ciphertext, tag] = seal_short().done([&key, &nonce, &text], [&room, &[0; 16]]);
     let [opened] = open_short().done([&key, &nonce, &ciphertext, &tag], [&room]);
     assert!(opened == text, "text {text_len}");
-    let wrong_tag = with_flip(&tag, up_to(random, 127));
-    open_short().refused(7, [&key, &nonce, &ciphertext, &wrong_tag], [&room]);
+    if refuses_too(text_len) {
+        let wrong_tag = with_flip(&tag, up_to(random, 127));
+        open_short().refused(7, [&key, &nonce, &ciphertext, &wrong_tag], [&room]);
+    }
 }
 
 #[test]
@@ -484,7 +492,9 @@ fn long_texts_are_sealed_and_opened_again() {
 fn longest_text_is_sealed_and_opened_again() {
     let mut random = Random::new(74);
     let card = Card::random(&mut random, LONGEST_DATA, LONGEST_TEXT);
-    refuse(&mut random, card.with(4, &with_flip(&card.tag, 0)));
+    if refuses_too(LONGEST_TEXT) {
+        refuse(&mut random, card.with(4, &with_flip(&card.tag, 0)));
+    }
     let too_long = LONGEST_TEXT + 1;
     compare(&mut random, [16, 12, LONGEST_DATA, too_long, 16, too_long]);
 }

@@ -148,7 +148,7 @@ impl Size {
         match self {
             Size::Exactly(len) if once_in(random, 2) => len + 1 + below(random, len),
             Size::Exactly(len) => below(random, len),
-            Size::Between(_, most) if once_in(random, 2 + most / 100_000) => {
+            Size::Between(_, most) if once_in(random, 2 + most / 40_000) => {
                 most + 1 + below(random, 17)
             }
             Size::Between(0, _) => self.right(random, lens),
