@@ -1,4 +1,4 @@
-// The block cipher with its key: what the rounds add is worked out once. Nothing above this file names the cipher.
+// The block cipher with its key: what the rounds add is worked out once. No other code of HyENA calls the cipher.
 ghost use mathlib.Core.Path.{_≡_};
 ghost use Rattle.words.specs.Block.{value, halves};
 ghost use Rattle.hyena_blocks.specs.Steps.{keyed, enciphers};
