@@ -8,19 +8,19 @@ use Prim.Native.Nat.{ℕ, _≤_}
 use native.Mathlib.Nat.{le-refl}
 use native.Mathlib.Omega.{arith}
 use lib.Dec.{T, eqb, leb, leb→le}
-use Rattle.words.proofs.Single.{same}
+use Rattle.words.proofs.Unique.{same}
 use Rattle.words.proofs.Tests.{and-left, and-right, cond-of}
 use Rattle.answers.specs.Answers.{Row, numberOf, Answer, answered, refuse, answer, applying, smallest}
 
 abbrev number : {A : Type 0} → Answer A → ℕ
 number a = a .number
 
-abbrev left : {A : Type 0} → Answer A → A
-left a = a .left
+abbrev outcome : {A : Type 0} → Answer A → A
+outcome a = a .outcome
 
 -- the number and the memory of two answers that one promise allows are equal
 pub same-answer : {A : Type 0} {m n : ℕ} {a b : A} {z : Answer A} → answered m a ≡ z → answered n b ≡ z → (m ≡ n) × (a ≡ b)
-same-answer p q = (ap number (same p q), ap left (same p q))
+same-answer p q = (ap number (same p q), ap outcome (same p q))
 
 -- ---- a list of rows
 
@@ -160,7 +160,7 @@ module _ {A : Type 0} (kept : A) (follows : Answer A) (more : List Row) (e : fol
 module _ {A : Type 0} (rows : A → List Row) (there back : A → A) (x : A) where
   -- after the answer a, the second call answers the same number and leaves x
   abbrev Back : Answer A → Type 0
-  Back a = answer (rows (a .left)) (back (a .left)) (a .left) ≡ answered (a .number) x
+  Back a = answer (rows (a .outcome)) (back (a .outcome)) (a .outcome) ≡ answered (a .number) x
 
   -- so it is, whether x was refused or not, where the outputs are judged as x was and are undone
   pub undone : (Clear (rows x) → rows (there x) ≡ rows x) → (Clear (rows x) → back (there x) ≡ x) → Back (answer (rows x) (there x) x)

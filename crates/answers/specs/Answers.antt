@@ -13,14 +13,14 @@ abbrev pub numberOf : List Row → ℕ
 numberOf [] = 0
 numberOf (r ∷ rs) = cond (r .applies) (r .number) (numberOf rs)
 
--- an answer: its number, and what the lent memory holds then
+-- an answer: its number, and its outcome: what the lent memory holds then, or what else is handed back
 pub record Answer (A : Type 0) : Type 0 where
   pub number : ℕ
-  pub left : A
+  pub outcome : A
 
--- what a call answered and left
+-- what a call answered
 abbrev pub answered : {A : Type 0} → ℕ → A → Answer A
-answered n a = record { number = n; left = a }
+answered n a = record { number = n; outcome = a }
 
 -- the first row that applies, with the memory that it keeps; where none does, what follows
 abbrev pub refuse : {A : Type 0} → List Row → A → Answer A → Answer A

@@ -19,7 +19,7 @@ use Rattle.words.specs.Words.{words, unwords}
 use Rattle.words.proofs.Bytes.{length-filled, filled-full}
 use Rattle.words.proofs.Lists.{length-tab, listed, sets-whole}
 use Rattle.words.proofs.WordLists.{number-filled, loaded-word, length-unwords}
-use Rattle.blake.specs.Blake.{iv, rounds, vector, folded, compress, padded, startChain, absorbed, keyed, hashed, digest}
+use Rattle.blake.specs.Blake.{iv, rounds, vector, folded, compress, padded, startChain, absorbed, withKey, hashed, digest}
 use Rattle.blake.specs.Entry.{rows, digesting}
 
 -- ---- a block
@@ -65,11 +65,11 @@ absorb-first h s t =
     let e2 : t + 0 ≡ t = omega arith in
     rw (e1, e2)
 
--- one turn: what the rest gives from here is what it gives from the start
-pub absorb-turn : (s h h′ r : List ℕ) (t i : ℕ) → i + 128 < length s → h′ ≡ compress h (padded (part s i 128)) (t + i + 128) false
+-- one block on: what the rest gives from here is what it gives from the start
+pub absorb-next : (s h h′ r : List ℕ) (t i : ℕ) → i + 128 < length s → h′ ≡ compress h (padded (part s i 128)) (t + i + 128) false
     → absorbed ((length s - i - 1) / 128) h (t + i) (drop i s) ≡ r → absorbed ((length s - (i + 128) - 1) / 128) h′ (t + (i + 128)) (drop (i + 128) s) ≡ r
 unfolding absorbed
-absorb-turn s h h′ r t i k eh e =
+absorb-next s h h′ r t i k eh e =
     let ek : (length s - i - 1) / 128 ≡ suc ((length s - (i + 128) - 1) / 128) = omega arith in
     let et : t + (i + 128) ≡ t + i + 128 = omega arith in
     let lb : length (part s i 128) ≡ 128 = simp (length-take, length-drop) (omega arith) in
@@ -96,27 +96,27 @@ absorbed-next k h d t = refl
 
 length-hashed : (key text : List ℕ) (nn : ℕ) → length (hashed key text nn) ≡ 8
 unfolding hashed
-length-hashed key text nn = length-absorbed ((length (keyed key text) - 1) / 128) (startChain (length key) nn) 0 (keyed key text)
+length-hashed key text nn = length-absorbed ((length (withKey key text) - 1) / 128) (startChain (length key) nn) 0 (withKey key text)
 
 nothing : (s : List ℕ) → length s ≡ 0 → s ≡ []
 nothing [] e = refl
 nothing (b ∷ s) e = absurd (omega arith)
 
-keyed-some : (key text : List ℕ) → (length key ≡ 0 → ⊥) → keyed key text ≡ padded key ++ text
-unfolding keyed
-keyed-some [] text n = absurd (n refl)
-keyed-some (b ∷ key) text n = refl
+withKey-some : (key text : List ℕ) → (length key ≡ 0 → ⊥) → withKey key text ≡ padded key ++ text
+unfolding withKey
+withKey-some [] text n = absurd (n refl)
+withKey-some (b ∷ key) text n = refl
 
 -- ---- no key; a key alone; both
 
 pub plain-is : (key text h r : List ℕ) (nn : ℕ) → length key ≡ 0 → h ≡ startChain (length key) nn → r ≡ absorbed ((length text - 1) / 128) h 0 text → r ≡ hashed key text nn
-unfolding hashed keyed
+unfolding hashed withKey
 plain-is [] text h r nn e eh er = rw (er, eh)
 plain-is (b ∷ key) text h r nn e eh er = absurd (omega arith)
 
 module _ (key text h : List ℕ) (nn : ℕ) (some : length key ≡ 0 → ⊥) (short : length key ≤ 64) (eh : h ≡ startChain (length key) nn) where
-  keyed-is : keyed key text ≡ padded key ++ text
-  keyed-is = keyed-some key text some
+  withKey-is : withKey key text ≡ padded key ++ text
+  withKey-is = withKey-some key text some
 
   long : length (padded key) ≡ 128
   long = length-filled 0 128 key
@@ -129,7 +129,7 @@ module _ (key text h : List ℕ) (nn : ℕ) (some : length key ≡ 0 → ⊥) (s
   alone-is {r} et er =
       let st = startChain (length key) nn in
       let p = padded key in
-      let e : keyed key text ≡ p = keyed-is ∙ ap (λ (l : List ℕ). p ++ l) (nothing text et) ∙ append-nil p in
+      let e : withKey key text ≡ p = withKey-is ∙ ap (λ (l : List ℕ). p ++ l) (nothing text et) ∙ append-nil p in
       let last : absorbed 0 st 0 p ≡ compress st p 128 true =
       ap (λ (n : ℕ). compress st (padded p) (0 + n) true) long ∙ ap (λ (l : List ℕ). compress st l 128 true) (filled-full 0 128 p long) in
       er ∙ ap (λ (l : List ℕ). compress h (padded l) 128 true) alone ∙ ap (λ (l : List ℕ). compress l p 128 true) eh
@@ -146,7 +146,7 @@ module _ (key text h : List ℕ) (nn : ℕ) (some : length key ≡ 0 → ⊥) (s
       let k = (length text - 1) / 128 in
       let next : absorbed (suc k) st 0 (p ++ text) ≡ absorbed k (compress st p 128 false) 128 text =
       absorbed-next k st (p ++ text) 0 ∙ rw (take-at p text 128 long, drop-at p text 128 long) in
-      er ∙ rw (ec, alone, eh, keyed-is, ek) (sym next)
+      er ∙ rw (ec, alone, eh, withKey-is, ek) (sym next)
 
 -- ---- the digest
 

@@ -1,4 +1,4 @@
 pub mod Mixing
 pub mod Hashing
 pub mod Examples
-pub mod Single
+pub mod Unique

@@ -8,7 +8,7 @@ use lib.ListN.{getD, set, take, drop, length}
 use Rattle.words.specs.Bytes.{filled}
 use Rattle.words.specs.Digits.{sumMod, rotr, tab}
 use Rattle.words.specs.Square.{square}
-use Rattle.words.specs.Turns.{turns}
+use Rattle.words.specs.Iterate.{iterate}
 use Rattle.words.specs.Words.{words, unwords}
 use Rattle.blake.specs.declared.Quad.{Quad}
 
@@ -69,7 +69,7 @@ round m r v = square (λ q. q .a) (λ q. q .b) (λ q. q .c) (λ q. q .d) (mixing
 
 -- twelve rounds
 abbrev pub rounds : List ℕ → List ℕ → List ℕ
-rounds m v = turns (round m) 12 v
+rounds m v = iterate (round m) 12 v
 
 -- the vector at the start: the chain value and the initialization vector, with the byte count t in two words and, for the last
 -- block, all bits of one word inverted
@@ -106,14 +106,14 @@ absorbed zero h t d = compress h (padded d) (t + length d) true
 absorbed (suc k) h t d = absorbed k (compress h (take 128 d) (t + 128) false) (t + 128) (drop 128 d)
 
 -- a key is a block of its own before the text; no key is none
-unfoldable pub keyed : List ℕ → List ℕ → List ℕ
-keyed [] text = text
-keyed (b ∷ key) text = padded (b ∷ key) ++ text
+unfoldable pub withKey : List ℕ → List ℕ → List ℕ
+withKey [] text = text
+withKey (b ∷ key) text = padded (b ∷ key) ++ text
 
 -- the last block has 1 to 128 bytes of the data, or none where there is no data
 unfoldable pub hashed : List ℕ → List ℕ → ℕ → List ℕ
 hashed key text nn =
-    let d = keyed key text in
+    let d = withKey key text in
     absorbed ((length d - 1) / 128) (startChain (length key) nn) 0 d
 
 -- its first nn bytes

@@ -1,4 +1,4 @@
--- What the entry point answers.
+-- What the digest's entry point answers.
 use Prim.Native.Nat.{ℕ}
 use mathlib.Core.Path.{_≡_}
 use mathlib.Core.List.{List, [], _∷_}

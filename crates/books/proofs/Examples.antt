@@ -36,15 +36,15 @@ pub lookups : _≡_ {A = List (Answer Place)}
     ∷ []
     )
     (
-    answered 0 (record { book = 0; at = 4 })
-    ∷ answered 0 (record { book = 1; at = 4 })
-    ∷ answered 0 (record { book = 1; at = 22 })
-    ∷ answered 11 (record { book = 0; at = 0 })
-    ∷ answered 11 (record { book = 0; at = 0 })
-    ∷ answered 10 (record { book = 0; at = 0 })
-    ∷ answered 10 (record { book = 0; at = 0 })
-    ∷ answered 10 (record { book = 0; at = 0 })
-    ∷ answered 10 (record { book = 0; at = 0 })
+    answered 0 (record { book = 0; offset = 4 })
+    ∷ answered 0 (record { book = 1; offset = 4 })
+    ∷ answered 0 (record { book = 1; offset = 22 })
+    ∷ answered 11 (record { book = 0; offset = 0 })
+    ∷ answered 11 (record { book = 0; offset = 0 })
+    ∷ answered 10 (record { book = 0; offset = 0 })
+    ∷ answered 10 (record { book = 0; offset = 0 })
+    ∷ answered 10 (record { book = 0; offset = 0 })
+    ∷ answered 10 (record { book = 0; offset = 0 })
     ∷ []
     )
 unfolding number tab count class rising wellFormed placeOf finding

@@ -12,8 +12,8 @@ use Rattle.books.specs.Books.{count, keyPlace, entry, holds}
 use Rattle.books.specs.Entry.{badlyFormed, noEntry, Place, nowhere, placed, finding}
 
 -- a struct as an answer
-abbrev pub told : Found → Answer Place
-told f = answered (f .number) (record { book = f .book; at = f .at })
+abbrev pub answerOf : Found → Answer Place
+answerOf f = answered (f .number) (record { book = f .book; offset = f .offset })
 
 -- whether there is an entry, by its place and the count
 pub holds-is : (c : ℕ) (book : List ℕ) {i n : ℕ} → i ≡ entry c book → n ≡ count book → holds c book ≡ ltb i n
@@ -31,31 +31,31 @@ first-missed false a g e n = refl
 module _ (c : ℕ) where
   -- the key of one book, and where it is not there, of the other
   abbrev keyAt : ℕ → List ℕ → Place
-  keyAt b book = record { book = b; at = keyPlace (entry c book) }
+  keyAt b book = record { book = b; offset = keyPlace (entry c book) }
 
   abbrev keyIn : ℕ → List ℕ → Answer Place → Answer Place
   keyIn b book other = cond (holds c book) (answered 0 (keyAt b book)) other
 
 -- both books are judged by the definition's rows; where neither is badly formed, both are searched
-module _ (this last : List ℕ) (c : ℕ) {r : ℕ} (er : r ≡ numberOf (badlyFormed this last)) where
-  pub bad : (r ≡ 0 → ⊥) → answered r nowhere ≡ finding this last c
+module _ (thisTerm lastTerm : List ℕ) (c : ℕ) {r : ℕ} (er : r ≡ numberOf (badlyFormed thisTerm lastTerm)) where
+  pub bad : (r ≡ 0 → ⊥) → answered r nowhere ≡ finding thisTerm lastTerm c
   unfolding finding
-  bad = judged-refused (badlyFormed this last) er nowhere (answer (noEntry this last c) (placed this last c) nowhere)
+  bad = judged-refused (badlyFormed thisTerm lastTerm) er nowhere (answer (noEntry thisTerm lastTerm c) (placed thisTerm lastTerm c) nowhere)
 
-  searched : r ≡ 0 → keyIn c 0 this (keyIn c 1 last (answered 11 nowhere)) ≡ finding this last c
+  searched : r ≡ 0 → keyIn c 0 thisTerm (keyIn c 1 lastTerm (answered 11 nowhere)) ≡ finding thisTerm lastTerm c
   unfolding finding
   searched z =
-      by (holds c this) (holds c last) _ _
-      ∙ sym (refuse-clear nowhere (answer (noEntry this last c) (placed this last c) nowhere) (badlyFormed this last) (judged-clear (badlyFormed this last) er tt z))
+      by (holds c thisTerm) (holds c lastTerm) _ _
+      ∙ sym (refuse-clear nowhere (answer (noEntry thisTerm lastTerm c) (placed thisTerm lastTerm c) nowhere) (badlyFormed thisTerm lastTerm) (judged-clear (badlyFormed thisTerm lastTerm) er tt z))
     where
       by : (t u : Bool) (a b : Place) → cond t (answered 0 a) (cond u (answered 0 b) (answered 11 nowhere)) ≡ cond (not (t || u)) (answered 11 nowhere) (answered 0 (cond t a b))
       by true u a b = refl
       by false true a b = refl
       by false false a b = refl
 
-  module _ (z : r ≡ 0) {f : Answer Place} (e : f ≡ keyIn c 0 this (answered 11 nowhere)) where
-    pub in-this : f .number ≡ 0 → f ≡ finding this last c
-    in-this n = first-done (holds c this) (keyAt c 0 this) (keyIn c 1 last (answered 11 nowhere)) e n ∙ searched z
+  module _ (z : r ≡ 0) {f : Answer Place} (e : f ≡ keyIn c 0 thisTerm (answered 11 nowhere)) where
+    pub in-this : f .number ≡ 0 → f ≡ finding thisTerm lastTerm c
+    in-this n = first-done (holds c thisTerm) (keyAt c 0 thisTerm) (keyIn c 1 lastTerm (answered 11 nowhere)) e n ∙ searched z
 
-    pub in-last : (f .number ≡ 0 → ⊥) → {g : Answer Place} → g ≡ keyIn c 1 last (answered 11 nowhere) → g ≡ finding this last c
-    in-last n {g} q = first-missed (holds c this) (keyAt c 0 this) g e n ∙ ap (keyIn c 0 this) q ∙ searched z
+    pub in-last : (f .number ≡ 0 → ⊥) → {g : Answer Place} → g ≡ keyIn c 1 lastTerm (answered 11 nowhere) → g ≡ finding thisTerm lastTerm c
+    in-last n {g} q = first-missed (holds c thisTerm) (keyAt c 0 thisTerm) g e n ∙ ap (keyIn c 0 thisTerm) q ∙ searched z

@@ -3,4 +3,4 @@ pub mod Finding
 pub mod Handed
 pub mod Entries
 pub mod Examples
-pub mod Single
+pub mod Unique

@@ -9,37 +9,38 @@ ghost use Rattle.books.specs.Books.{count, class, keyPlace, wellFormed, 
 ghost use Rattle.books.specs.Entry.{nowhere, finding, Finding, HandedBack};
 use answers::row;
 
-// Where a key lies: 0 or the refusal, the book (0 this term's, 1 last term's) and the place in it.
+// Where a key lies: 0 or the refusal, the book (0 this term's, 1 last term's) and the offset in it.
 #[repr(C)]
 pub struct Found {
     pub number: u32,
     pub book: u32,
-    pub at: usize,
+    pub offset: usize,
 }
 
-// The refusal, or 0 where there is a key for the class.
-pub fn number(this: &[u8], last: &[u8], class: u16) -> u32
-    ensures { λ r. ⌜ r ≡ finding (now (this .entry)) (now (last .entry)) class .number ⌝ }
+// The number that `find` answers: the refusal, or 0 where there is a key for the class.
+pub fn number(this_term: &[u8], last_term: &[u8], class: u16) -> u32
+    ensures { λ r. ⌜ r ≡ finding (now («this_term» .entry)) (now («last_term» .entry)) class .number ⌝ }
 {
-    let f = find(this, last, class);
+    let f = find(this_term, last_term, class);
     f.number
 }
 
-// The key's 16 bytes where they lie in the book, or an empty part.
-pub fn part<'a>(this: &'a [u8], last: &'a [u8], class: u16) -> &'a [u8]
-    ensures { λ r. ⌜ HandedBack r (this .entry) (last .entry) class ⌝ }
+// The key's 16 bytes where they lie in the book that `find` names, themselves and no copy; where it is refused, an empty
+// part at the start of this term's book.
+pub fn part<'a>(this_term: &'a [u8], last_term: &'a [u8], class: u16) -> &'a [u8]
+    ensures { λ r. ⌜ HandedBack r («this_term» .entry) («last_term» .entry) class ⌝ }
 {
-    let f = find(this, last, class);
-    let book = book_of(f.book, this, last);
-    let at = f.at;
-    let end = at + length_of(f.number);
-    &book[at..end]
+    let f = find(this_term, last_term, class);
+    let book = book_of(f.book, this_term, last_term);
+    let offset = f.offset;
+    let end = offset + length_of(f.number);
+    &book[offset..end]
 }
 
-fn book_of<'a>(which: u32, this: &'a [u8], last: &'a [u8]) -> &'a [u8]
-    ensures { λ r. ⌜ lent r ≡ cond (eqb which 0) (lent (this .entry)) (lent (last .entry)) ⌝ }
+fn book_of<'a>(which: u32, this_term: &'a [u8], last_term: &'a [u8]) -> &'a [u8]
+    ensures { λ r. ⌜ lent r ≡ cond (eqb which 0) (lent («this_term» .entry)) (lent («last_term» .entry)) ⌝ }
 {
-    if which == 0 { this } else { last }
+    if which == 0 { this_term } else { last_term }
 }
 
 fn length_of(number: u32) -> usize
@@ -48,44 +49,49 @@ fn length_of(number: u32) -> usize
     if number == 0 { 16 } else { 0 }
 }
 
-// Both books are judged before either is searched.
-pub fn find(this: &[u8], last: &[u8], class: u16) -> Found
-    ensures { λ r. ⌜ Finding (r .number) (now (this .entry)) (now (last .entry)) class (r .book) (r .at) ⌝ }
+// Where the key of the class lies: the book and the offset in it; where it is refused, book 0 and offset 0. Both books are
+// judged before either is searched.
+pub fn find(this_term: &[u8], last_term: &[u8], class: u16) -> Found
+    ensures { λ r. ⌜ Finding (r .number) (now («this_term» .entry)) (now («last_term» .entry)) class (r .book) (r .offset) ⌝ }
 {
-    let refused = row(!well_formed(this), 10, row(!well_formed(last), 10, 0));
+    let refused = row(
+        !well_formed(this_term),
+        10,
+        row(!well_formed(last_term), 10, 0),
+    );
     if refused != 0 {
         return nowhere(refused);
     }
-    let f = key_in(0, this, class);
+    let f = key_in(0, this_term, class);
     if f.number == 0 {
         return f;
     }
-    key_in(1, last, class)
+    key_in(1, last_term, class)
 }
 
 // The key of the class in one book.
 fn key_in(which: u32, book: &[u8], class: u16) -> Found
-    ensures { λ r. ⌜ answered (r .number) (record { book = r .book; at = r .at })
-        ≡ cond (holds class (now (book .entry))) (answered 0 (record { book = which; at = keyPlace (entry class (now (book .entry))) })) (answered 11 nowhere) ⌝ }
+    ensures { λ r. ⌜ answered (r .number) (record { book = r .book; offset = r .offset })
+        ≡ cond (holds class (now (book .entry))) (answered 0 (record { book = which; offset = keyPlace (entry class (now (book .entry))) })) (answered 11 nowhere) ⌝ }
 {
     let i = entry_of(book, class);
     if i < count_of(book) {
         return Found {
             number: 0,
             book: which,
-            at: 2 + 18 * i + 2,
+            offset: 2 + 18 * i + 2,
         };
     }
     nowhere(11)
 }
 
 fn nowhere(number: u32) -> Found
-    ensures { λ r. ⌜ r ≡ record { number = number; book = 0; at = 0 } ⌝ }
+    ensures { λ r. ⌜ r ≡ record { number = number; book = 0; offset = 0 } ⌝ }
 {
     Found {
         number: number,
         book: 0,
-        at: 0,
+        offset: 0,
     }
 }
 

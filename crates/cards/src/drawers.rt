@@ -11,7 +11,7 @@ use crate::refusal::Refusal;
 use crate::text;
 use crate::text::Text;
 use drawer::Drawer;
-use kept::Kept;
+use drawer_file::Recalled;
 use words::first;
 
 // What was refused, or the drawer, and the file beside it, open for its next state.
@@ -25,7 +25,7 @@ pub(crate) struct Held {
 pub(crate) fn start(o: Options) -> Refusal {
     let reader = (inputs::number(o, options::READER).value % 4294967296) as u32;
     let d = drawer::start(reader, inputs::number(o, options::COUNT).value);
-    let file = kept::keep(d);
+    let file = drawer_file::keep(d);
     let r = outputs::claim_name(o, options::DRAWER);
     if r.number != 0 {
         return r;
@@ -130,10 +130,10 @@ fn opened(o: Options, fd: i32) -> Held {
 }
 
 // The drawer in an open file. What has no places, as a pipe, is none, and reading it could take forever.
-pub(crate) fn kept_in(fd: i32) -> Kept {
+pub(crate) fn kept_in(fd: i32) -> Recalled {
     let mut file = [0u8; 45];
     let n = read_start(fd, &mut file);
-    kept::recall(first(&file, n))
+    drawer_file::recall(first(&file, n))
 }
 
 fn read_start(fd: i32, room: &mut [u8]) -> usize {
@@ -150,7 +150,7 @@ pub(crate) fn beside(o: Options) -> Text {
 
 // Puts the next state in the drawer's place and waits until that is on the disk.
 fn keep(o: Options, fd: i32, next: Drawer) -> Refusal {
-    let file = kept::keep(next);
+    let file = drawer_file::keep(next);
     let r = outputs::filled(o, options::DRAWER, fd, &file);
     let s = outputs::put_in_place(r, o, options::DRAWER, beside(o));
     if s.number != 0 {

@@ -139,15 +139,15 @@ fn ended(got: isize, not_hex: bool, len: usize) -> Taken {
 fn hex_from(fd: i32, room: &mut [u8]) -> Taken {
     let mut h = hex::begin();
     let mut chunk = io::large_buffer();
-    let mut turns: u64 = 18446744073709551615;
-    while turns > 0 {
+    let mut fuel: u64 = 18446744073709551615;
+    while fuel > 0 {
         let got = libc::read(fd, &mut chunk);
         let n = io::count(got, &chunk);
         if n == 0 {
             return ended(got, !whole(h), h.len);
         }
         h = hex::take_in(h, &chunk[..n], room);
-        turns -= 1;
+        fuel -= 1;
     }
     ended(0, true, 0)
 }

@@ -66,7 +66,7 @@ fn seal_text(
 
 fn seal_given(o: Options, key: &[u8], nonce: &[u8], data: &[u8], text: &[u8]) -> Refusal {
     let mut room = rooms::card();
-    let number = card::seal(key, nonce, data, text, &mut room);
+    let number = sealed_card::seal(key, nonce, data, text, &mut room);
     outputs::finish(refused(o, number), o, first(&room, with_30(text.len())))
 }
 
@@ -80,7 +80,7 @@ fn seal_drawn(o: Options, key: &[u8], data: &[u8], text: &[u8]) -> Refusal {
     let nonce = drawn.bytes;
     let next = drawn.next;
     let mut room = rooms::card();
-    let number = card::seal(key, &nonce, data, text, &mut room);
+    let number = sealed_card::seal(key, &nonce, data, text, &mut room);
     let against = refusal::or(refused(o, number), drawers::spent(o, drawn.number));
     drawers::spend(o, h, next, against, first(&room, with_30(text.len())))
 }
@@ -111,7 +111,7 @@ fn open_card(before: Refusal, o: Options, key: &[u8], data: &[u8], sealed: &[u8]
         return before;
     }
     let mut room = io::large_buffer();
-    let number = card::open(key, data, sealed, &mut room);
+    let number = sealed_card::open(key, data, sealed, &mut room);
     outputs::finish(
         refused(o, number),
         o,

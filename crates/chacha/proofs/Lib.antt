@@ -1,4 +1,4 @@
 pub mod Rounds
 pub mod Streams
 pub mod Examples
-pub mod Single
+pub mod Unique

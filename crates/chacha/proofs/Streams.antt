@@ -1,4 +1,4 @@
--- The key stream: a block's turn, adding it twice, and cutting it after whole blocks.
+-- The key stream: one block on, adding it twice, and cutting it after whole blocks.
 use mathlib.Core.Path.{_≡_, refl, sym, ap, ap₂, _∙_}
 use mathlib.Core.List.{List, _++_, append-assoc}
 use Prim.Native.Nat.{ℕ, zero, suc, _+_, _*_, _^_, _≤_}
@@ -23,10 +23,10 @@ pub stream-first : (key nonce text : List ℕ) (counter n : ℕ) → n ≡ block
 unfolding stream
 stream-first key nonce text counter n e = plusAt-first text (keyStream key nonce counter n) ∙ ap (λ (m : ℕ). plus text (keyStream key nonce counter m)) e
 
-pub stream-turn : (key nonce text text′ k l : List ℕ) (c i m n : ℕ) → k ≡ block key nonce c → text′ ≡ plusAt i text (part k 0 64) → m ≡ suc n
+pub stream-next : (key nonce text text′ k l : List ℕ) (c i m n : ℕ) → k ≡ block key nonce c → text′ ≡ plusAt i text (part k 0 64) → m ≡ suc n
     → plusAt i text (keyStream key nonce c m) ≡ l → plusAt (i + 64) text′ (keyStream key nonce (c + 1) n) ≡ l
 unfolding keyStream
-stream-turn key nonce text text′ k l c i m n ek et em e =
+stream-next key nonce text text′ k l c i m n ek et em e =
     let b = block key nonce c in
     let lb : length b ≡ 64 = length-block (startState key nonce c) in
     let eb : part k 0 64 ≡ b = ap (λ (x : List ℕ). part x 0 64) ek ∙ take-all 64 b (omega arith) in
@@ -78,7 +78,7 @@ module _ (key nonce : List ℕ) where
 
 -- called twice it answers the same number and gives the text back, refused or not
 pub streaming-twice : (key nonce text : List ℕ) (counter : ℕ)
-    → streaming key nonce counter (streaming key nonce counter text .left) ≡ answered (streaming key nonce counter text .number) text
+    → streaming key nonce counter (streaming key nonce counter text .outcome) ≡ answered (streaming key nonce counter text .number) text
 unfolding streaming
 streaming-twice key nonce text counter =
     undone (λ t. rows (length key) (length nonce) counter (length t)) (stream key nonce counter) (stream key nonce counter) text
@@ -103,7 +103,7 @@ streaming-done key nonce text counter ek en ht hb = simp (eq-eqb _ _ ek, eq-eqb 
 -- a call that is done, cut after m whole blocks: both calls are done, and they leave the same bytes
 pub streaming-cut : (key nonce a b : List ℕ) (counter m : ℕ) → length a ≡ 64 * m → streaming key nonce counter (a ++ b) .number ≡ 0
     → (streaming key nonce counter a .number ≡ 0) × (streaming key nonce (counter + m) b .number ≡ 0)
-    × (streaming key nonce counter (a ++ b) .left ≡ streaming key nonce counter a .left ++ streaming key nonce (counter + m) b .left)
+    × (streaming key nonce counter (a ++ b) .outcome ≡ streaming key nonce counter a .outcome ++ streaming key nonce (counter + m) b .outcome)
 unfolding streaming
 streaming-cut key nonce a b counter m e done =
     let d = answer-done (stream key nonce counter (a ++ b)) (a ++ b) (rows (length key) (length nonce) counter (length (a ++ b))) tt done in
@@ -116,5 +116,5 @@ streaming-cut key nonce a b counter m e done =
     let second = streaming-done key nonce b (counter + m) (k .key-32) (k .nonce-12) (omega (arith, ht, l)) (omega (arith, hb, l, e)) in (
       ap (λ r. r .number) first,
       ap (λ r. r .number) second,
-      ap (λ r. r .left) whole ∙ stream-cut key nonce a b counter m e ∙ sym (ap₂ _++_ (ap (λ r. r .left) first) (ap (λ r. r .left) second)),
+      ap (λ r. r .outcome) whole ∙ stream-cut key nonce a b counter m e ∙ sym (ap₂ _++_ (ap (λ r. r .outcome) first) (ap (λ r. r .outcome) second)),
     )

@@ -62,7 +62,7 @@ module _ (d : Decimal) (b : ℕ) (s : List ℕ) where
   unfolding from digits behind
   one-more e l m = rw (e, lt-ltb 47 b (omega arith), lt-ltb b 58 (omega arith))
 
--- one turn of the loop
+-- one step of the loop
 pub turn : (word : List ℕ) (i : ℕ) (d d′ : Decimal) → i < length word → ((s : List ℕ) → from d′ s ≡ from d (getD word i 0 ∷ s)) → from d (drop i word) ≡ reading word
     → from d′ (drop (i + 1) word) ≡ reading word
 turn word i d d′ h e inv = rw add-one (e (drop (suc i) word) ∙ ap (from d) (sym (drop-cons word i 0 h)) ∙ inv)

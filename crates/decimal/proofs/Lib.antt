@@ -1,3 +1,3 @@
 pub mod Decimals
 pub mod Examples
-pub mod Single
+pub mod Unique

@@ -4,12 +4,13 @@ ghost use mathlib.Core.List.{List, [], _∷_};
 ghost use Prim.Native.Nat.{ℕ};
 ghost use Rattle.decimal.specs.Decimal.{from, none as Decimal·none, reading};
 
-// Whether a word is a number below 2^64, and which; 0 where it is none.
+// Whether a word is a number, and which.
 pub struct Decimal {
     pub good: bool,
     pub value: u64,
 }
 
+// Whether a word is one decimal digit or more and below 2^64, and its value; 0 where it is not.
 pub fn number(word: &[u8]) -> Decimal
     ensures { λ r. ⌜ r ≡ reading (now (word .entry)) ⌝ }
 {

@@ -1,4 +1,4 @@
 pub mod Steps
 pub mod Sequence
 pub mod Examples
-pub mod Single
+pub mod Unique

@@ -60,7 +60,7 @@ four f = refl
 
 -- the draw answered 12 bytes, refused or not, and an iv is what it answered with them four times
 abbrev Ivs : Drawer → Answer Handed → Answer Handed → Type 0
-Ivs d a b = (length (a .left .bytes) ≡ 12) × (answered (a .number) (record { bytes = fourTimes (a .left .bytes); next = a .left .next }) ≡ b)
+Ivs d a b = (length (a .outcome .bytes) ≡ 12) × (answered (a .number) (record { bytes = fourTimes (a .outcome .bytes); next = a .outcome .next }) ≡ b)
 
 ivs : (d : Drawer) → Ivs d (drawing forNonce d) (drawing forIv d)
 unfolding drawing nonce bytes

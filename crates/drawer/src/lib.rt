@@ -27,6 +27,7 @@ pub struct DrawnIv {
     pub next: Drawer,
 }
 
+// The drawer with this reader number and this count.
 pub fn start(reader: u32, count: u64) -> Drawer
     ensures { λ r. ⌜ r ≡ started reader count ⌝ }
 {
@@ -36,7 +37,8 @@ pub fn start(reader: u32, count: u64) -> Drawer
     }
 }
 
-// One number. Whoever goes on drawing from d, and not from the next drawer, draws the same number again.
+// A nonce: the bytes of the reader number and the count, and the next drawer, whose count is greater by one. Whoever goes on
+// drawing from d, and not from the next drawer, draws the same nonce again.
 pub fn draw(d: Drawer) -> Drawn
     ensures { λ r. ⌜ Drawing forNonce (r .number) d (r .bytes) (r .next) ⌝ }
 {
@@ -50,12 +52,12 @@ pub fn draw(d: Drawer) -> Drawn
     }
     Drawn {
         number: 0,
-        bytes: state(d),
+        bytes: next_nonce(d),
         next: start(d.reader, d.count + 1),
     }
 }
 
-// An iv: one draw, written four times.
+// An iv: one draw, written four times, and the next drawer.
 pub fn iv(d: Drawer) -> DrawnIv
     ensures { λ r. ⌜ Drawing forIv (r .number) d (r .bytes) (r .next) ⌝ }
 {
@@ -81,11 +83,12 @@ fn refusal(n: u64, d: Drawer) -> u32
     row(18446744073709551615 - d.count < n, 9, 0)
 }
 
-// The bytes of a drawer's two numbers.
-pub type Numbers = [u8; 12];
+// The bytes of a nonce.
+pub type Nonce = [u8; 12];
 
-// The number that a drawer draws next, unless it is spent.
-pub fn state(d: Drawer) -> Numbers
+// The nonce that a drawer draws next, unless it is spent: its reader number in four bytes, then its count in eight, both
+// little-endian.
+pub fn next_nonce(d: Drawer) -> Nonce
     ensures { λ r. ⌜ r ≡ nonce d ⌝ }
 {
     let mut b = [0u8; 12];

@@ -14,21 +14,21 @@ pub(crate) fn cards() {
     fill(&mut key, 1);
     let mut nonce = [0u8; 12];
     fill(&mut nonce, 2);
-    let mut ad = [0u8; 65537];
-    fill(&mut ad, 3);
+    let mut data = [0u8; 65537];
+    fill(&mut data, 3);
     let mut text = [0u8; 4097];
     fill(&mut text, 4);
-    all_lengths(&key, &nonce, &ad, &text);
-    wrong_lengths(&key, &nonce, &ad, &text);
-    wrong_tags(&key, &nonce, &ad, &text);
+    all_lengths(&key, &nonce, &data, &text);
+    wrong_lengths(&key, &nonce, &data, &text);
+    wrong_tags(&key, &nonce, &data, &text);
     short_forms(&key, &nonce, &text);
 }
 
 // Each length of associated data with each of text.
-fn all_lengths(key: &[u8], nonce: &[u8], ad: &[u8], text: &[u8]) {
+fn all_lengths(key: &[u8], nonce: &[u8], data: &[u8], text: &[u8]) {
     let mut i: usize = 0;
     while i < 7 {
-        all_texts(first(key, 16), nonce, first(ad, length(i, 65536)), text);
+        all_texts(first(key, 16), nonce, first(data, length(i, 65536)), text);
         i += 1;
     }
 }
@@ -50,24 +50,24 @@ fn length(i: usize, long: usize) -> usize
 }
 
 // Opened with the tag, and with its lowest bit flipped.
-fn all_texts(key: &[u8], nonce: &[u8], ad: &[u8], text: &[u8]) {
+fn all_texts(key: &[u8], nonce: &[u8], data: &[u8], text: &[u8]) {
     let mut i: usize = 0;
     while i < 7 {
         let n = length(i, 4096);
-        card(key, nonce, ad, first(text, n), n + 5, 16, 128);
-        card(key, nonce, ad, first(text, n), n + 5, 16, 0);
+        card(key, nonce, data, first(text, n), n + 5, 16, 128);
+        card(key, nonce, data, first(text, n), n + 5, 16, 0);
         i += 1;
     }
 }
 
 // Each choice of wrong lengths; bit 5 says whether a wrong tag is too long.
-fn wrong_lengths(key: &[u8], nonce: &[u8], ad: &[u8], text: &[u8]) {
+fn wrong_lengths(key: &[u8], nonce: &[u8], data: &[u8], text: &[u8]) {
     let mut m: usize = 0;
     while m < 64 {
         if m < 32 || m / 8 % 2 == 1 {
             let k = first(key, 16 + m % 2);
             let n = first(nonce, 12 - m / 2 % 2);
-            let a = first(ad, 1 + 65536 * (m / 4 % 2));
+            let a = first(data, 1 + 65536 * (m / 4 % 2));
             let tag = 16 - m / 8 % 2 + 2 * (m / 32);
             card(k, n, a, first(text, 17), 17 - m / 16 % 2, tag, 128);
         }
@@ -76,13 +76,13 @@ fn wrong_lengths(key: &[u8], nonce: &[u8], ad: &[u8], text: &[u8]) {
 }
 
 // One card with each bit of its tag flipped.
-fn wrong_tags(key: &[u8], nonce: &[u8], ad: &[u8], text: &[u8]) {
+fn wrong_tags(key: &[u8], nonce: &[u8], data: &[u8], text: &[u8]) {
     let mut bit: usize = 0;
     while bit < 128 {
         card(
             first(key, 16),
             nonce,
-            first(ad, 3),
+            first(data, 3),
             first(text, 5),
             8,
             16,
@@ -101,15 +101,23 @@ fn short_forms(key: &[u8], nonce: &[u8], text: &[u8]) {
     }
 }
 
-fn card(key: &[u8], nonce: &[u8], ad: &[u8], text: &[u8], room: usize, tag: usize, bit: usize) {
-    put_lengths(key.len(), nonce.len(), ad.len(), text.len(), room, tag, bit);
+fn card(key: &[u8], nonce: &[u8], data: &[u8], text: &[u8], room: usize, tag: usize, bit: usize) {
+    put_lengths(
+        key.len(),
+        nonce.len(),
+        data.len(),
+        text.len(),
+        room,
+        tag,
+        bit,
+    );
     let mut sealed = [0xa5u8; 4113];
     let mut t = [0x5au8; 17];
     let mut opened = [0xa5u8; 4113];
     seal(
         key,
         nonce,
-        ad,
+        data,
         text,
         first_mut(&mut sealed, room),
         first_mut(&mut t, tag),
@@ -119,7 +127,7 @@ fn card(key: &[u8], nonce: &[u8], ad: &[u8], text: &[u8], room: usize, tag: usiz
     open(
         key,
         nonce,
-        ad,
+        data,
         ciphertext,
         first(&t, tag),
         first_mut(&mut opened, room),
@@ -127,14 +135,14 @@ fn card(key: &[u8], nonce: &[u8], ad: &[u8], text: &[u8], room: usize, tag: usiz
     io::write_all(STDOUT_FILENO, b"\n");
 }
 
-fn seal(key: &[u8], nonce: &[u8], ad: &[u8], text: &[u8], room: &mut [u8], tag: &mut [u8]) {
-    let number = hyena::seal(key, nonce, ad, text, room, tag);
+fn seal(key: &[u8], nonce: &[u8], data: &[u8], text: &[u8], room: &mut [u8], tag: &mut [u8]) {
+    let number = hyena::seal(key, nonce, data, text, room, tag);
     put(number, room);
     put_bytes(tag);
 }
 
-fn open(key: &[u8], nonce: &[u8], ad: &[u8], ciphertext: &[u8], tag: &[u8], room: &mut [u8]) {
-    let number = hyena::open(key, nonce, ad, ciphertext, tag, room);
+fn open(key: &[u8], nonce: &[u8], data: &[u8], ciphertext: &[u8], tag: &[u8], room: &mut [u8]) {
+    let number = hyena::open(key, nonce, data, ciphertext, tag, room);
     put(number, room);
 }
 
@@ -172,7 +180,7 @@ fn flip(tag: &mut [u8], bit: usize) {
 fn put_lengths(
     key: usize,
     nonce: usize,
-    ad: usize,
+    data: usize,
     text: usize,
     room: usize,
     tag: usize,
@@ -180,7 +188,7 @@ fn put_lengths(
 ) {
     io::print_decimal(STDOUT_FILENO, key as u64);
     put_number(nonce as u64);
-    put_number(ad as u64);
+    put_number(data as u64);
     put_number(text as u64);
     put_number(room as u64);
     put_number(tag as u64);

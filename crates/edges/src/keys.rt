@@ -67,18 +67,23 @@ pub(crate) fn keys() {
 fn in_books(i: usize, j: usize)
     requires { ⌜ (i < 13) × (j < 13) ⌝ }
 {
-    let mut this = [0u8; 56];
-    write_book(i, 5, &mut this);
-    let mut last = [0u8; 56];
-    write_book(j, 6, &mut last);
-    in_parts(i, j, first(&this, LENGTHS[i]), first(&last, LENGTHS[j]));
+    let mut this_term = [0u8; 56];
+    write_book(i, 5, &mut this_term);
+    let mut last_term = [0u8; 56];
+    write_book(j, 6, &mut last_term);
+    in_parts(
+        i,
+        j,
+        first(&this_term, LENGTHS[i]),
+        first(&last_term, LENGTHS[j]),
+    );
 }
 
-fn in_parts<'a>(i: usize, j: usize, this: &'a [u8], last: &'a [u8]) {
-    key(i, j, this, last, 0);
-    key(i, j, this, last, 7);
-    key(i, j, this, last, 256);
-    key(i, j, this, last, 65535);
+fn in_parts<'a>(i: usize, j: usize, this_term: &'a [u8], last_term: &'a [u8]) {
+    key(i, j, this_term, last_term, 0);
+    key(i, j, this_term, last_term, 7);
+    key(i, j, this_term, last_term, 256);
+    key(i, j, this_term, last_term, 65535);
 }
 
 fn write_book(kind: usize, salt: usize, book: &mut [u8])
@@ -95,15 +100,15 @@ fn put_two(book: &mut [u8], at: usize, x: u64) {
     words::store(book, at, 2, Block { lo: x, hi: 0 });
 }
 
-fn key<'a>(i: usize, j: usize, this: &'a [u8], last: &'a [u8], class: u16) {
+fn key<'a>(i: usize, j: usize, this_term: &'a [u8], last_term: &'a [u8], class: u16) {
     io::write_all(STDOUT_FILENO, b"key");
     put_number(i as u64);
     put_number(j as u64);
     put_number(class as u64);
-    put_number(books::number(this, last, class) as u64);
-    put_bytes(books::part(this, last, class));
-    let found = books::find(this, last, class);
+    put_number(books::number(this_term, last_term, class) as u64);
+    put_bytes(books::part(this_term, last_term, class));
+    let found = books::find(this_term, last_term, class);
     put_number(found.book as u64);
-    put_number(found.at as u64);
+    put_number(found.offset as u64);
     io::write_all(STDOUT_FILENO, b"\n");
 }

@@ -13,26 +13,26 @@ use Rattle.words.proofs.Blocks.{value-halves, value-is, loaded-all, stored-all}
 use Rattle.words.proofs.Bytes.{length-bytes, number-bytes, bytes-number, number-lt}
 use Rattle.words.proofs.Lists.{tab-at}
 use Rattle.answers.proofs.Answers.{Clear, refuse-clear, undone}
-use Rattle.gift.specs.declared.Additions.{Additions}
-use Rattle.gift.specs.Gift.{added, forty, cipher, encipher, decipher}
-use Rattle.gift.specs.Entry.{additions, addition, enciphers, deciphers, rows, crypting, enciphering, deciphering}
+use Rattle.gift.specs.declared.RoundKeys.{RoundKeys}
+use Rattle.gift.specs.Gift.{roundKey, forty, cipher, encipher, decipher}
+use Rattle.gift.specs.Entry.{roundKeys, roundKeyIn, enciphers, deciphers, rows, crypting, enciphering, deciphering}
 use Rattle.gift.proofs.Inverse.{forty-same, cipher-lt, cipher-undone}
 
--- ---- the additions, worked out, are those of the rounds
+-- ---- the round keys, worked out, are those of the rounds
 
-addition-is : (k r : ℕ) → r < 40 → addition (additions k) r ≡ added k r
-unfolding additions addition
-addition-is k r h = ap value (tab-at (λ i. halves (added k i)) (halves 0) 40 r h) ∙ value-halves (added k r)
+roundKeyIn-is : (k r : ℕ) → r < 40 → roundKeyIn (roundKeys k) r ≡ roundKey k r
+unfolding roundKeys roundKeyIn
+roundKeyIn-is k r h = ap value (tab-at (λ i. halves (roundKey k i)) (halves 0) 40 r h) ∙ value-halves (roundKey k r)
 
-forty-is : (back : Bool) (k x : ℕ) → forty back (addition (additions k)) x ≡ cipher back k x
+forty-is : (back : Bool) (k x : ℕ) → forty back (roundKeyIn (roundKeys k)) x ≡ cipher back k x
 unfolding cipher
-forty-is back k x = forty-same back (addition (additions k)) (added k) x (addition-is k)
+forty-is back k x = forty-same back (roundKeyIn (roundKeys k)) (roundKey k) x (roundKeyIn-is k)
 
-pub enciphers-is : (k x : ℕ) → enciphers (additions k) x ≡ encipher k x
+pub enciphers-is : (k x : ℕ) → enciphers (roundKeys k) x ≡ encipher k x
 unfolding enciphers
 enciphers-is k x = forty-is false k x
 
-pub deciphers-is : (k x : ℕ) → deciphers (additions k) x ≡ decipher k x
+pub deciphers-is : (k x : ℕ) → deciphers (roundKeys k) x ≡ decipher k x
 unfolding deciphers
 deciphers-is k x = forty-is true k x
 
@@ -46,9 +46,9 @@ pub record Allowed (key block : ℕ) : Type 0 where
 pub allowed : (key block : ℕ) → Clear (rows key block) → Allowed key block
 allowed key block (k, (b, none)) = record { key-16 = eqb-true _ _ (not-false _ k); block-16 = eqb-true _ _ (not-false _ b) }
 
-pub crypted : (back : Bool) (key block : List ℕ) {k x y : Block} {a : Additions} {end : List ℕ} → Clear (rows (length key) (length block))
-    → k ≡ halves (loaded key 0 16) → a ≡ additions (value k) → x ≡ halves (loaded block 0 16)
-    → y ≡ halves (forty back (addition a) (value x)) → end ≡ stored block 0 16 (value y) → answered 0 end ≡ crypting back key block
+pub crypted : (back : Bool) (key block : List ℕ) {k x y : Block} {a : RoundKeys} {end : List ℕ} → Clear (rows (length key) (length block))
+    → k ≡ halves (loaded key 0 16) → a ≡ roundKeys (value k) → x ≡ halves (loaded block 0 16)
+    → y ≡ halves (forty back (roundKeyIn a) (value x)) → end ≡ stored block 0 16 (value y) → answered 0 end ≡ crypting back key block
 unfolding crypting
 crypted back key block {k} {x} {y} {a} {end} c ek ea ex ey ee =
     let l = allowed (length key) (length block) c in
@@ -57,7 +57,7 @@ crypted back key block {k} {x} {y} {a} {end} c ek ea ex ey ee =
     ap (answered 0)
     (ee ∙ stored-all block (value y) (l .block-16)
     ∙ ap (bytes 16)
-    (value-is ey ∙ ap (λ b. forty back (addition b) (value x)) ea ∙ forty-is back (value k) (value x)
+    (value-is ey ∙ ap (λ b. forty back (roundKeyIn b) (value x)) ea ∙ forty-is back (value k) (value x)
     ∙ ap₂ (cipher back) vk vx))
     ∙ sym (refuse-clear _ _ (rows (length key) (length block)) c)
 
@@ -82,14 +82,14 @@ module _ (back : Bool) (key block : List ℕ) (are : Bytes block) where
       ∙ ap (λ (n : ℕ). bytes n x) (sym hb)
       ∙ bytes-number block are
 
-  crypting-undone : crypting (not back) key (crypting back key block .left) ≡ answered (crypting back key block .number) block
+  crypting-undone : crypting (not back) key (crypting back key block .outcome) ≡ answered (crypting back key block .number) block
   unfolding crypting there
   crypting-undone =
       undone (λ b. rows (length key) (length b)) (there back) (there (not back)) block
       (λ c. rw (length-bytes 16 (cipher back (number key) (number block)), full c)) (λ c. there-back (full c))
 
-pub deciphering-enciphering : (key block : List ℕ) → Bytes block → deciphering key (enciphering key block .left) ≡ answered (enciphering key block .number) block
+pub deciphering-enciphering : (key block : List ℕ) → Bytes block → deciphering key (enciphering key block .outcome) ≡ answered (enciphering key block .number) block
 deciphering-enciphering = crypting-undone false
 
-pub enciphering-deciphering : (key block : List ℕ) → Bytes block → enciphering key (deciphering key block .left) ≡ answered (deciphering key block .number) block
+pub enciphering-deciphering : (key block : List ℕ) → Bytes block → enciphering key (deciphering key block .outcome) ≡ answered (deciphering key block .number) block
 enciphering-deciphering = crypting-undone true

@@ -6,12 +6,12 @@ use native.Mathlib.Nat.{zero-lt-suc, mod-lt, suc-sub-suc}
 use native.Mathlib.Omega.{arith}
 use lib.Bits.{bitXor, xor-lt}
 use lib.Dec.{lit<, lit≤}
-use Rattle.words.specs.Turns.{turns}
+use Rattle.words.specs.Iterate.{iterate}
 use Rattle.words.proofs.ExclusiveOr.{xor-undo}
 use Rattle.words.proofs.Sums.{scatter-lt}
 use Rattle.words.proofs.Tests.{cond-lt}
-use Rattle.words.proofs.Turns.{turns-same}
-use Rattle.gift.specs.Gift.{bit, subCells, permBits, spread, keyBits, constBits, keyU, keyV, keyAt, roundConst, added, round, rounds, forty, cipher, encipher, decipher}
+use Rattle.words.proofs.Iterate.{iterate-same}
+use Rattle.gift.specs.Gift.{bit, subCells, permBits, spread, keyBits, constBits, keyU, keyV, keyAt, roundConst, roundKey, round, rounds, forty, cipher, encipher, decipher}
 use Rattle.gift.proofs.Steps.{subCells-lt, subCells-undone, permBits-lt, permBits-undone}
 
 -- ---- what a round adds is a block, whatever the key
@@ -20,9 +20,9 @@ spread-lt : (o n u : ℕ) → o < 4 → n ≤ 32 → spread o n u < 2 ^ 128
 unfolding spread
 spread-lt o n u h m = scatter-lt 1 (λ i. bit i u) (λ i. 4 * i + o) n 128 (λ i. mod-lt _ (zero-lt-suc 1)) (λ i l. omega arith)
 
-added-lt : (k r : ℕ) → added k r < 2 ^ 128
-unfolding added keyBits constBits
-added-lt k r =
+roundKey-lt : (k r : ℕ) → roundKey k r < 2 ^ 128
+unfolding roundKey keyBits constBits
+roundKey-lt k r =
     xor-lt 128 _ _
     (xor-lt 128 _ _ (spread-lt 2 32 (keyU (keyAt k r)) (lit< tt) (lit≤ tt)) (spread-lt 1 32 (keyV (keyAt k r)) (lit< tt) (lit≤ tt)))
     (xor-lt 128 (2 ^ 127) _ (lit< tt) (spread-lt 3 6 (roundConst (suc r)) (lit< tt) (lit≤ tt)))
@@ -53,23 +53,23 @@ round-undone true a x ha h =
 -- ---- all rounds
 
 rounds-same : (back : Bool) (a b : ℕ → ℕ) (n x : ℕ) → ((r : ℕ) → r < n → a r ≡ b r) → rounds back a n x ≡ rounds back b n x
-rounds-same back a b n x h = turns-same (λ r. round back (a r)) (λ r. round back (b r)) n x (λ r y l. ap (λ (z : ℕ). round back z y) (h r l))
+rounds-same back a b n x h = iterate-same (λ r. round back (a r)) (λ r. round back (b r)) n x (λ r y l. ap (λ (z : ℕ). round back z y) (h r l))
 
 -- the first round by itself
 rounds-first : (back : Bool) (a : ℕ → ℕ) (n x : ℕ) → rounds back a (suc n) x ≡ rounds back (λ r. a (suc r)) n (round back (a 0) x)
-unfolding turns
+unfolding iterate
 rounds-first back a zero x = refl
 rounds-first back a (suc n) x = ap (round back (a (suc n))) (rounds-first back a n x)
 
 rounds-lt : (back : Bool) (a : ℕ → ℕ) (n x : ℕ) → ((r : ℕ) → a r < 2 ^ 128) → x < 2 ^ 128 → rounds back a n x < 2 ^ 128
-unfolding turns
+unfolding iterate
 rounds-lt back a zero x small h = h
 rounds-lt back a (suc n) x small h = round-lt back (a n) (rounds back a n x) (small n)
 
 -- n rounds, and the same from the last on the other way
 rounds-undone : (back : Bool) (a : ℕ → ℕ) (n x : ℕ) → ((r : ℕ) → a r < 2 ^ 128) → x < 2 ^ 128
     → rounds (not back) (λ r. a (n - suc r)) n (rounds back a n x) ≡ x
-unfolding turns
+unfolding iterate
 rounds-undone back a zero x small h = refl
 rounds-undone back a (suc n) x small h =
     let y = rounds back a n x in
@@ -82,9 +82,9 @@ rounds-undone back a (suc n) x small h =
 
 -- ---- forty
 
-turned-twice : (back : Bool) (r : ℕ) → r < 40 → cond (not back) (39 - r) r ≡ cond back (39 - (40 - suc r)) (40 - suc r)
-turned-twice false r h = omega arith
-turned-twice true r h = omega arith
+index-twice : (back : Bool) (r : ℕ) → r < 40 → cond (not back) (39 - r) r ≡ cond back (39 - (40 - suc r)) (40 - suc r)
+index-twice false r h = omega arith
+index-twice true r h = omega arith
 
 pub forty-same : (back : Bool) (a b : ℕ → ℕ) (x : ℕ) → ((r : ℕ) → r < 40 → a r ≡ b r) → forty back a x ≡ forty back b x
 unfolding forty
@@ -100,18 +100,18 @@ module _ (back : Bool) (a : ℕ → ℕ) (x : ℕ) (small : (r : ℕ) → a r < 
   unfolding forty
   forty-undone =
       let b : ℕ → ℕ = λ r. a (cond back (39 - r) r) in
-      rounds-same (not back) (λ r. a (cond (not back) (39 - r) r)) (λ r. b (40 - suc r)) 40 (rounds back b 40 x) (λ r l. ap a (turned-twice back r l))
+      rounds-same (not back) (λ r. a (cond (not back) (39 - r) r)) (λ r. b (40 - suc r)) 40 (rounds back b 40 x) (λ r l. ap a (index-twice back r l))
       ∙ rounds-undone back b 40 x (λ r. small (cond back (39 - r) r)) h
 
 -- for every key and every block below 2 ^ 128
 module _ (back : Bool) (k x : ℕ) (h : x < 2 ^ 128) where
   pub cipher-lt : cipher back k x < 2 ^ 128
   unfolding cipher
-  cipher-lt = forty-lt back (added k) x (added-lt k) h
+  cipher-lt = forty-lt back (roundKey k) x (roundKey-lt k) h
 
   pub cipher-undone : cipher (not back) k (cipher back k x) ≡ x
   unfolding cipher
-  cipher-undone = forty-undone back (added k) x (added-lt k) h
+  cipher-undone = forty-undone back (roundKey k) x (roundKey-lt k) h
 
 pub decipher-encipher : (k x : ℕ) → x < 2 ^ 128 → decipher k (encipher k x) ≡ x
 decipher-encipher = cipher-undone false

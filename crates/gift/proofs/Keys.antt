@@ -9,11 +9,11 @@ use lib.Pow.{mod-pow-add, mod-mod-pow}
 use Rattle.words.specs.declared.Block.{Block}
 use Rattle.words.specs.Block.{value, halves}
 use Rattle.words.specs.Digits.{rotr}
-use Rattle.words.specs.Turns.{turns}
+use Rattle.words.specs.Iterate.{iterate}
 use Rattle.words.proofs.Blocks.{whole, value-is}
 use Rattle.words.proofs.Rotation.{rotr-is, rotr-lt}
-use Rattle.words.proofs.Turns.{turns-next}
-use Rattle.gift.specs.Gift.{word, keyU, keyV, keyBits, stepConst, roundConst, constBits, keyStep, keyAt, added}
+use Rattle.words.proofs.Iterate.{iterate-next}
+use Rattle.gift.specs.Gift.{word, keyU, keyV, keyBits, stepConst, roundConst, constBits, keyStep, keyAt, roundKey}
 use Rattle.words.proofs.Fields.{field-low, from-high}
 
 -- ---- U and V
@@ -59,17 +59,17 @@ keyStep-is k a b h ea eb =
     rejoin : (k : Block) → k .hi / 2 ^ 32 * 2 ^ 64 + k .hi % 2 ^ 32 * 2 ^ 32 + k .lo / 2 ^ 32 ≡ value k / 2 ^ 32
     rejoin k = omega arith
 
--- ---- one turn of the loop over the rounds
+-- ---- one step of the loop over the rounds
 
 -- the state goes on
-pub state-turn : (k r : ℕ) {s t : Block} → s ≡ halves (keyAt k r) → t ≡ halves (keyStep (value s)) → t ≡ halves (keyAt k (r + 1))
-state-turn k r es et = et ∙ ap halves (turns-next (λ i. keyStep) r k (value-is es) refl)
+pub state-next : (k r : ℕ) {s t : Block} → s ≡ halves (keyAt k r) → t ≡ halves (keyStep (value s)) → t ≡ halves (keyAt k (r + 1))
+state-next k r es et = et ∙ ap halves (iterate-next (λ i. keyStep) r k (value-is es) refl)
 
 -- what is added
-pub added-turn : (k r : ℕ) {s u v w : Block} {c d : ℕ} → s ≡ halves (keyAt k r) → c ≡ roundConst r → d ≡ stepConst c
-    → u ≡ halves (keyBits (value s)) → v ≡ halves (constBits d) → w ≡ halves (bitXor (value u) (value v)) → w ≡ halves (added k r)
-unfolding added turns
-added-turn k r es ec ed eu ev ew =
+pub roundKey-next : (k r : ℕ) {s u v w : Block} {c d : ℕ} → s ≡ halves (keyAt k r) → c ≡ roundConst r → d ≡ stepConst c
+    → u ≡ halves (keyBits (value s)) → v ≡ halves (constBits d) → w ≡ halves (bitXor (value u) (value v)) → w ≡ halves (roundKey k r)
+unfolding roundKey iterate
+roundKey-next k r es ec ed eu ev ew =
     ew
     ∙ ap halves (ap₂ bitXor
     (value-is eu ∙ ap keyBits (value-is es))

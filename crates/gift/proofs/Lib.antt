@@ -3,4 +3,4 @@ pub mod Steps
 pub mod Inverse
 pub mod Keys
 pub mod Entry
-pub mod Single
+pub mod Unique

@@ -1,4 +1,4 @@
--- What the entry points answer.
+-- What GIFT-128's entry points answer, and its round keys worked out for many blocks.
 use Prim.Native.Nat.{ℕ}
 use mathlib.Core.Path.{_≡_}
 use mathlib.Core.Bool.{Bool, true, false, not}
@@ -9,29 +9,29 @@ use Rattle.words.specs.Block.{value, halves}
 use Rattle.words.specs.Bytes.{number, bytes}
 use Rattle.words.specs.Digits.{tab}
 use Rattle.answers.specs.Answers.{Row, Answer, answered, answer}
-use Rattle.gift.specs.declared.Additions.{Additions}
-use Rattle.gift.specs.Gift.{place, added, forty, cipher}
+use Rattle.gift.specs.declared.RoundKeys.{RoundKeys}
+use Rattle.gift.specs.Gift.{place, roundKey, forty, cipher}
 
 -- the places that bits 0, 1, .., 127 move to
 abbrev pub placeTable : List ℕ
 placeTable = tab place 0 128
 
--- ---- with the additions of all rounds worked out
+-- ---- with the round keys worked out, each with its round constant
 
 -- those of the key k
-unfoldable pub additions : ℕ → Additions
-additions k = record { rounds = tab (λ r. halves (added k r)) 0 40 }
+unfoldable pub roundKeys : ℕ → RoundKeys
+roundKeys k = record { rounds = tab (λ r. halves (roundKey k r)) 0 40 }
 
--- what round r adds
-unfoldable pub addition : Additions → ℕ → ℕ
-addition a r = value (getD (a .rounds) r (halves 0))
+-- that of round r
+unfoldable pub roundKeyIn : RoundKeys → ℕ → ℕ
+roundKeyIn a r = value (getD (a .rounds) r (halves 0))
 
 -- forty rounds that add them, each way
-unfoldable pub enciphers : Additions → ℕ → ℕ
-enciphers a x = forty false (addition a) x
+unfoldable pub enciphers : RoundKeys → ℕ → ℕ
+enciphers a x = forty false (roundKeyIn a) x
 
-unfoldable pub deciphers : Additions → ℕ → ℕ
-deciphers a x = forty true (addition a) x
+unfoldable pub deciphers : RoundKeys → ℕ → ℕ
+deciphers a x = forty true (roundKeyIn a) x
 
 -- ---- on byte buffers; of their lengths: 1 "key has a wrong length", 4 "text or block length not allowed"
 

@@ -8,7 +8,7 @@ use lib.Bits.{bitXor}
 use lib.Dec.{eqb}
 use lib.ListN.{getD}
 use Rattle.words.specs.Digits.{digit, rotr, xsum}
-use Rattle.words.specs.Turns.{turns}
+use Rattle.words.specs.Iterate.{iterate}
 
 -- bit i and nibble j of x, counted from the lowest
 abbrev pub bit : ℕ → ℕ → ℕ
@@ -70,7 +70,7 @@ stepConst c = c * 2 % 2 ^ 6 + (bit 5 c + bit 4 c + 1) % 2
 
 -- after r steps
 abbrev pub roundConst : ℕ → ℕ
-roundConst r = turns (λ i. stepConst) r 0
+roundConst r = iterate (λ i. stepConst) r 0
 
 -- "Bit 127 is flipped. The six-bit round constant c5..c0 is added to bits 23, 19, 15, 11, 7, 3."
 unfoldable pub constBits : ℕ → ℕ
@@ -83,13 +83,13 @@ keyStep k = rotr 16 2 (word 1 k) * 2 ^ 112 + rotr 16 12 (word 0 k) * 2 ^ 96 + k 
 
 -- after r steps
 abbrev pub keyAt : ℕ → ℕ → ℕ
-keyAt k r = turns (λ i. keyStep) r k
+keyAt k r = iterate (λ i. keyStep) r k
 
 -- ---- the rounds
 
 -- what round r, counted from 0, adds to the block in its steps 3 and 4
-unfoldable pub added : ℕ → ℕ → ℕ
-added k r = bitXor (keyBits (keyAt k r)) (constBits (roundConst (suc r)))
+unfoldable pub roundKey : ℕ → ℕ → ℕ
+roundKey k r = bitXor (keyBits (keyAt k r)) (constBits (roundConst (suc r)))
 
 -- a round that adds a, "in this order", and undone in the other
 unfoldable pub round : Bool → ℕ → ℕ → ℕ
@@ -98,14 +98,14 @@ round true a x = subCells true (permBits true (bitXor x a))
 
 -- n rounds, which add a 0, a 1, ..
 abbrev pub rounds : Bool → (ℕ → ℕ) → ℕ → ℕ → ℕ
-rounds back a n x = turns (λ r. round back (a r)) n x
+rounds back a n x = iterate (λ r. round back (a r)) n x
 
 -- "Forty rounds", and back from the last
 unfoldable pub forty : Bool → (ℕ → ℕ) → ℕ → ℕ
 forty back a x = rounds back (λ r. a (cond back (39 - r) r)) 40 x
 
 unfoldable pub cipher : Bool → ℕ → ℕ → ℕ
-cipher back k x = forty back (added k) x
+cipher back k x = forty back (roundKey k) x
 
 abbrev pub encipher : ℕ → ℕ → ℕ
 encipher k x = cipher false k x

@@ -7,15 +7,15 @@ ghost use Rattle.words.specs.Block.{value, halves};
 ghost use Rattle.words.specs.Digits.{rotr};
 ghost use Rattle.answers.specs.Answers.{numberOf, answered};
 ghost use Rattle.gift.specs.Gift.{sbox, subCells, permBits, spread, keyBits, stepConst, constBits, keyStep, round, forty};
-ghost use Rattle.gift.specs.Entry.{placeTable, additions, addition, enciphers, deciphers, rows, crypting, Enciphering, Deciphering};
+ghost use Rattle.gift.specs.Entry.{placeTable, roundKeys, roundKeyIn, enciphers, deciphers, rows, crypting, Enciphering, Deciphering};
 
 mod places;
 
 use answers::row;
 use words::Block;
 
-// What each of the forty rounds adds to the block: worked out once for a key, it serves for many blocks.
-pub struct Additions {
+// The round keys with the round constants: worked out once for a key, they serve for many blocks.
+pub struct RoundKeys {
     pub rounds: [Block; 40],
 }
 
@@ -33,9 +33,9 @@ pub fn decipher(key: &[u8], block: &mut [u8]) -> u32
     crypt(true, key, block)
 }
 
-// What each round adds under key, in its steps 3 and 4.
-pub fn additions_of(key: Block) -> Additions
-    ensures { λ r. ⌜ r ≡ additions (value key) ⌝ }
+// The round keys of key, each with its round constant: what the rounds add in their steps 3 and 4.
+pub fn round_keys_of(key: Block) -> RoundKeys
+    ensures { λ r. ⌜ r ≡ roundKeys (value key) ⌝ }
 {
     let mut out = [Block { lo: 0, hi: 0 }; 40];
     let mut state = key;
@@ -47,18 +47,18 @@ pub fn additions_of(key: Block) -> Additions
         state = key_step(state);
         i += 1;
     }
-    Additions { rounds: out }
+    RoundKeys { rounds: out }
 }
 
-// x through forty rounds that add what a holds.
-pub fn encipher_block(a: Additions, x: Block) -> Block
+// The block that forty rounds make of x, adding the round keys a.
+pub fn encipher_block(a: RoundKeys, x: Block) -> Block
     ensures { λ r. ⌜ r ≡ halves (enciphers a (value x)) ⌝ }
 {
     forty_rounds(false, a, x)
 }
 
-// The same rounds undone.
-pub fn decipher_block(a: Additions, x: Block) -> Block
+// The block of which forty rounds make x: the same rounds undone.
+pub fn decipher_block(a: RoundKeys, x: Block) -> Block
     ensures { λ r. ⌜ r ≡ halves (deciphers a (value x)) ⌝ }
 {
     forty_rounds(true, a, x)
@@ -72,7 +72,7 @@ fn crypt(back: bool, key: &[u8], block: &mut [u8]) -> u32
     if refused != 0 {
         return refused;
     }
-    let a = additions_of(words::load(key, 0, 16));
+    let a = round_keys_of(words::load(key, 0, 16));
     let x = words::load(&block[..], 0, 16);
     words::store(block, 0, 16, forty_rounds(back, a, x));
     0
@@ -85,23 +85,23 @@ fn refusal(key: usize, block: usize) -> u32
     row(key != 16, 1, row(block != 16, 4, 0))
 }
 
-fn forty_rounds(back: bool, a: Additions, x: Block) -> Block
-    ensures { λ r. ⌜ r ≡ halves (forty back (addition a) (value x)) ⌝ }
+fn forty_rounds(back: bool, a: RoundKeys, x: Block) -> Block
+    ensures { λ r. ⌜ r ≡ halves (forty back (roundKeyIn a) (value x)) ⌝ }
 {
     let places = places::PLACES;
     let rounds = a.rounds;
     let mut y = x;
     let mut r: usize = 0;
     while r < 40 {
-        let at = turn(back, r);
+        let at = round_index(back, r);
         y = round_of(back, rounds[at], y, &places);
         r += 1;
     }
     y
 }
 
-// Which round comes r-th.
-fn turn(back: bool, r: usize) -> usize
+// Which round key is added r-th.
+fn round_index(back: bool, r: usize) -> usize
     requires { ⌜ r < 40 ⌝ }
     ensures { λ t. ⌜ (t ≡ cond back (39 - r) r) × (t < 40) ⌝ }
 {

@@ -5,11 +5,11 @@ use mathlib.Core.List.{List, [], _∷_}
 use Prim.Native.Nat.{ℕ}
 use Rattle.words.specs.Bytes.{over}
 use Rattle.hex.specs.declared.Hex.{Hex}
-use Rattle.hex.specs.Hex.{glyph, digitsOf, written, wordOf, showing, meaning, Reading, start, feed, fed}
+use Rattle.hex.specs.Hex.{glyph, digitsOf, written, wordOf, showing, meaning, Reading, start, takenByte, takenIn}
 
 -- a text, read into room for two bytes
 abbrev taken : List ℕ → Reading
-taken text = fed text (record { hex = start; room = 0 ∷ 0 ∷ [] })
+taken text = takenIn text (record { hex = start; room = 0 ∷ 0 ∷ [] })
 
 abbrev left : List ℕ → Hex → Reading
 left room hex = record { hex = hex; room = room }
@@ -19,7 +19,7 @@ pub hexes : (taken (48 ∷ 97 ∷ 70 ∷ 32 ∷ 102 ∷ 10 ∷ []) ≡ left (10 
     × (taken (48 ∷ 97 ∷ 48 ∷ []) ≡ left (10 ∷ 0 ∷ []) (record { good = true; half = true; high = 0; len = 1 }))
     × (taken (48 ∷ 103 ∷ []) ≡ left (0 ∷ 0 ∷ []) (record { good = false; half = true; high = 0; len = 0 }))
     × (taken (48 ∷ 97 ∷ 48 ∷ 98 ∷ 48 ∷ 99 ∷ []) ≡ left (10 ∷ 11 ∷ []) (record { good = true; half = false; high = 0; len = 2 }))
-unfolding fed feed meaning
+unfolding takenIn takenByte meaning
 hexes = (refl, refl, refl, refl)
 
 -- a byte is written in lower case, the high digit first

@@ -16,7 +16,7 @@ use Rattle.words.proofs.Lists.{sets-append}
 use Rattle.words.proofs.Over.{sets-front}
 use Rattle.words.proofs.Tests.{below}
 use Rattle.hex.specs.declared.Hex.{Hex}
-use Rattle.hex.specs.Hex.{glyph, digitsOf, written, spelling, Spelling, wordOf, showing, Showing, meaning, Reading, start, spoilt, halfway, whole, feed, fed}
+use Rattle.hex.specs.Hex.{glyph, digitsOf, written, spelling, Spelling, wordOf, showing, Showing, meaning, Reading, start, spoilt, halfway, whole, takenByte, takenIn}
 
 -- ---- writing
 
@@ -25,11 +25,11 @@ unfolding written digitsOf
 length-written [] = refl
 length-written (b ∷ s) = omega (arith, length-written s)
 
--- one turn of the loop
-pub write-turn : (s room room′ l : List ℕ) (i : ℕ) → i < length s → room′ ≡ sets room (2 * i) (digitsOf (getD s i 0)) → sets room (2 * i) (written (drop i s)) ≡ l
+-- one step of the loop
+pub write-next : (s room room′ l : List ℕ) (i : ℕ) → i < length s → room′ ≡ sets room (2 * i) (digitsOf (getD s i 0)) → sets room (2 * i) (written (drop i s)) ≡ l
     → sets room′ (2 * (i + 1)) (written (drop (i + 1) s)) ≡ l
 unfolding written digitsOf
-write-turn s room room′ l i h e inv =
+write-next s room room′ l i h e inv =
     let at : 2 * (i + 1) ≡ 2 * i + 2 = omega arith in
     rw (at, add-one, e) (sets-append room (2 * i) (digitsOf (getD s i 0)) (written (drop (suc i) s))
     ∙ ap (λ (t : List ℕ). sets room (2 * i) (written t)) (sym (drop-cons s i 0 h)) ∙ inv)
@@ -71,7 +71,7 @@ module _ (s room : List ℕ) {n : ℕ} {room′ : List ℕ} (e : Spelling n s ro
   word-refused z = by (ltb (length room) (2 * length s)) (over (written s) room) e ∙ sym shows
     where
       by : (u : Bool) (y : List ℕ) → answered n room′ ≡ cond u (answered 6 room) (answered 0 y) → _≡_ {A = ℕ × List ℕ} (0, room′) (cond u (0, room) (2 * length s, y))
-      by true y q = ap (λ (a : Answer (List ℕ)). (0, a .left)) q
+      by true y q = ap (λ (a : Answer (List ℕ)). (0, a .outcome)) q
       by false y q = absurd (z (ap (λ (a : Answer (List ℕ)). a .number) q))
 
   pub word-is : n ≡ 0 → Showing (2 * length s) s room room′
@@ -80,43 +80,43 @@ module _ (s room : List ℕ) {n : ℕ} {room′ : List ℕ} (e : Spelling n s ro
     where
       by : (u : Bool) (y : List ℕ) → answered n room′ ≡ cond u (answered 6 room) (answered 0 y) → _≡_ {A = ℕ × List ℕ} (2 * length s, room′) (cond u (0, room) (2 * length s, y))
       by true y q = absurd (omega (arith, z, ap (λ (a : Answer (List ℕ)). a .number) q))
-      by false y q = ap (λ (a : Answer (List ℕ)). (2 * length s, a .left)) q
+      by false y q = ap (λ (a : Answer (List ℕ)). (2 * length s, a .outcome)) q
 
 -- ---- reading
 
 module _ (b : ℕ) (r : Reading) {d : ℕ} (e : d ≡ meaning b) where
-  pub read-white : d ≡ 16 → r ≡ feed b r
-  unfolding feed
+  pub read-white : d ≡ 16 → r ≡ takenByte b r
+  unfolding takenByte
   read-white h = simp (eq-eqb (meaning b) 16 (sym e ∙ h))
 
-  pub read-other : d ≡ 17 → record { hex = spoilt (r .hex); room = r .room } ≡ feed b r
-  unfolding feed
+  pub read-other : d ≡ 17 → record { hex = spoilt (r .hex); room = r .room } ≡ takenByte b r
+  unfolding takenByte
   read-other h = let m : meaning b ≡ 17 = sym e ∙ h in rw m
 
   module _ (n : d ≡ 16 → ⊥) (n′ : d ≡ 17 → ⊥) where
-    pub read-high : r .hex .half ≡ false → record { hex = halfway d (r .hex); room = r .room } ≡ feed b r
-    unfolding feed
+    pub read-high : r .hex .half ≡ false → record { hex = halfway d (r .hex); room = r .room } ≡ takenByte b r
+    unfolding takenByte
     read-high h = simp (ne-eqb (meaning b) 16 (λ z. n (e ∙ z)), ne-eqb (meaning b) 17 (λ z. n′ (e ∙ z)), h) (rw e)
 
-    pub read-low : r .hex .half ≡ true → whole d r ≡ feed b r
-    unfolding feed
+    pub read-low : r .hex .half ≡ true → whole d r ≡ takenByte b r
+    unfolding takenByte
     read-low h = simp (ne-eqb (meaning b) 16 (λ z. n (e ∙ z)), ne-eqb (meaning b) 17 (λ z. n′ (e ∙ z)), h) (rw e)
 
--- one turn of the loop
-pub read-turn : (text : List ℕ) (i : ℕ) (r r′ l : Reading) → i < length text → r′ ≡ feed (getD text i 0) r → fed (drop i text) r ≡ l → fed (drop (i + 1) text) r′ ≡ l
-unfolding fed
-read-turn text i r r′ l h e inv = rw (add-one, e) (ap (λ (t : List ℕ). fed t r) (sym (drop-cons text i 0 h)) ∙ inv)
+-- one step of the loop
+pub read-next : (text : List ℕ) (i : ℕ) (r r′ l : Reading) → i < length text → r′ ≡ takenByte (getD text i 0) r → takenIn (drop i text) r ≡ l → takenIn (drop (i + 1) text) r′ ≡ l
+unfolding takenIn
+read-next text i r r′ l h e inv = rw (add-one, e) (ap (λ (t : List ℕ). takenIn t r) (sym (drop-cons text i 0 h)) ∙ inv)
 
 -- after it
-pub read-end : (text : List ℕ) (i : ℕ) (r l : Reading) → length text ≤ i → fed (drop i text) r ≡ l → r ≡ l
-unfolding fed
-read-end text i r l h inv = ap (λ (t : List ℕ). fed t r) (sym (drop-of-length-le text {i = i} h)) ∙ inv
+pub read-end : (text : List ℕ) (i : ℕ) (r l : Reading) → length text ≤ i → takenIn (drop i text) r ≡ l → r ≡ l
+unfolding takenIn
+read-end text i r l h inv = ap (λ (t : List ℕ). takenIn t r) (sym (drop-of-length-le text {i = i} h)) ∙ inv
 
 -- cut anywhere, the pieces one after another are read as the whole
-pub fed-cut : (s t : List ℕ) (r : Reading) → fed (s ++ t) r ≡ fed t (fed s r)
-unfolding fed
-fed-cut [] t r = refl
-fed-cut (b ∷ s) t r = fed-cut s t (feed b r)
+pub takenIn-cut : (s t : List ℕ) (r : Reading) → takenIn (s ++ t) r ≡ takenIn t (takenIn s r)
+unfolding takenIn
+takenIn-cut [] t r = refl
+takenIn-cut (b ∷ s) t r = takenIn-cut s t (takenByte b r)
 
 -- ---- what is written is read back
 
@@ -130,22 +130,22 @@ at-byte n = record { good = true; half = false; high = 0; len = n }
 
 -- the digits of one byte
 byte-back : (b n : ℕ) (room : List ℕ) → b < 256 → n < length room
-    → feed (glyph (b % 16)) (feed (glyph (b / 16)) (record { hex = at-byte n; room = room })) ≡ record { hex = at-byte (n + 1); room = set room n b }
+    → takenByte (glyph (b % 16)) (takenByte (glyph (b / 16)) (record { hex = at-byte n; room = room })) ≡ record { hex = at-byte (n + 1); room = set room n b }
 byte-back b n room h k =
     let hi : b / 16 < 16 = omega arith in
     let lo : b % 16 < 16 = omega arith in
-    let e₁ : record { hex = halfway (b / 16) (at-byte n); room = room } ≡ feed (glyph (b / 16)) (record { hex = at-byte n; room = room }) =
+    let e₁ : record { hex = halfway (b / 16) (at-byte n); room = room } ≡ takenByte (glyph (b / 16)) (record { hex = at-byte n; room = room }) =
     read-high (glyph (b / 16)) (record { hex = at-byte n; room = room }) (sym (glyph-means (b / 16) hi)) (λ z. omega (arith, z)) (λ z. omega (arith, z)) refl in
     let r : Reading = record { hex = halfway (b / 16) (at-byte n); room = room } in
-    let e₂ : whole (b % 16) r ≡ feed (glyph (b % 16)) r =
+    let e₂ : whole (b % 16) r ≡ takenByte (glyph (b % 16)) r =
     read-low (glyph (b % 16)) r (sym (glyph-means (b % 16) lo)) (λ z. omega (arith, z)) (λ z. omega (arith, z)) refl in
     let v : b / 16 % 16 * 16 + b % 16 ≡ b = omega arith in
-    ap (feed (glyph (b % 16))) (sym e₁) ∙ sym e₂
+    ap (takenByte (glyph (b % 16))) (sym e₁) ∙ sym e₂
     ∙ ap₂ (λ (l : ℕ) (x : ℕ). record { hex = at-byte l; room = set room n x }) (rw (lt-ltb n (length room) k)) v
 
 pub reading-written : (s room : List ℕ) (n : ℕ) → Bytes s → n + length s ≤ length room
-    → fed (written s) (record { hex = at-byte n; room = room }) ≡ record { hex = at-byte (n + length s); room = sets room n s }
-unfolding fed written digitsOf
+    → takenIn (written s) (record { hex = at-byte n; room = room }) ≡ record { hex = at-byte (n + length s); room = sets room n s }
+unfolding takenIn written digitsOf
 reading-written [] room n h k = rw add-zero
 reading-written (b ∷ s) room n h k =
     let l : length (set room n b) ≡ length room = length-set room n b in
@@ -155,7 +155,7 @@ reading-written (b ∷ s) room n h k =
 
 -- from the start: all of it is in front of the room, and nothing waits
 pub read-back : (s room : List ℕ) → Bytes s → length s ≤ length room
-    → fed (written s) (record { hex = start; room = room }) ≡ record { hex = at-byte (length s); room = over s room }
+    → takenIn (written s) (record { hex = start; room = room }) ≡ record { hex = at-byte (length s); room = over s room }
 read-back s room h k =
     reading-written s room 0 h (omega arith)
     ∙ ap₂ (λ (n : ℕ) (l : List ℕ). record { hex = at-byte n; room = l }) (zero-add (length s)) (sets-front s room k)

@@ -1,3 +1,3 @@
 pub mod Hexes
 pub mod Examples
-pub mod Single
+pub mod Unique

@@ -83,16 +83,16 @@ whole d r =
     }
 
 -- one byte of the text
-unfoldable pub feed : ℕ → Reading → Reading
-feed b r =
+unfoldable pub takenByte : ℕ → Reading → Reading
+takenByte b r =
     cond (eqb (meaning b) 16) r
     (cond (eqb (meaning b) 17) (record { hex = spoilt (r .hex); room = r .room })
     (cond (r .hex .half) (whole (meaning b) r) (record { hex = halfway (meaning b) (r .hex); room = r .room })))
 
 -- all of it, one after another
-unfoldable pub fed : List ℕ → Reading → Reading
-fed [] r = r
-fed (b ∷ s) r = fed s (feed b r)
+unfoldable pub takenIn : List ℕ → Reading → Reading
+takenIn [] r = r
+takenIn (b ∷ s) r = takenIn s (takenByte b r)
 
-abbrev pub Fed : Hex → Hex → List ℕ → List ℕ → List ℕ → Type 0
-Fed r h text room room′ = record { hex = r; room = room′ } ≡ fed text (record { hex = h; room = room })
+abbrev pub TakingIn : Hex → Hex → List ℕ → List ℕ → List ℕ → Type 0
+TakingIn r h text room room′ = record { hex = r; room = room′ } ≡ takenIn text (record { hex = h; room = room })

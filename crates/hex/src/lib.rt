@@ -7,7 +7,7 @@ ghost use mathlib.Core.Bool.{cond};
 ghost use lib.Dec.{ltb};
 ghost use lib.ListN.{length, set};
 ghost use lib.Seq.{sets};
-ghost use Rattle.hex.specs.Hex.{white, meaning, glyph, digitsOf, start, feed, Fed, Spelling, Showing};
+ghost use Rattle.hex.specs.Hex.{white, meaning, glyph, digitsOf, start, takenByte, TakingIn, Spelling, Showing};
 
 // How far a text has been read: whether all of it was digits and white space, the high digit that waits for its low
 // one, and how many bytes are in the room.
@@ -18,6 +18,7 @@ pub struct Hex {
     pub len: usize,
 }
 
+// The start of a text in hex, of which nothing has been read.
 pub fn begin() -> Hex
     ensures { λ r. ⌜ r ≡ start ⌝ }
 {
@@ -29,9 +30,10 @@ pub fn begin() -> Hex
     }
 }
 
-// Reads text on. Bytes that the room is too short for are left out.
+// Reads on from h, with `text`: how far the whole has been read then, and in the room the bytes that are complete. Those
+// for which the room is too short are not written.
 pub fn take_in(h: Hex, text: &[u8], room: &mut [u8]) -> Hex
-    ensures { λ r. ⌜ Fed r h (now (text .entry)) (now (room .entry)) (now (room .exit)) ⌝ }
+    ensures { λ r. ⌜ TakingIn r h (now (text .entry)) (now (room .entry)) (now (room .exit)) ⌝ }
 {
     let mut s = h;
     let mut i = 0;
@@ -90,7 +92,7 @@ fn two(room: &mut [u8], at: usize, b: u8)
 }
 
 fn one(h: Hex, b: u8, room: &mut [u8]) -> Hex
-    ensures { λ r. ⌜ record { hex = r; room = now (room .exit) } ≡ feed b (record { hex = h; room = now (room .entry) }) ⌝ }
+    ensures { λ r. ⌜ record { hex = r; room = now (room .exit) } ≡ takenByte b (record { hex = h; room = now (room .entry) }) ⌝ }
 {
     let d = meaning_of(b);
     if d == 16 {

@@ -25,8 +25,8 @@ use Rattle.hyena.proofs.Entry.{allowed, opening-by}
 -- another text as long, a tag and room for the text are not refused either
 reclear : (i : Inputs) (tag room c t room′ : List ℕ) → Clear (refusals i tag room) → length c ≡ length (i .text) → length t ≡ 16 → length (i .text) ≤ length room′
     → Clear (refusals (withText i c) t room′)
-reclear i tag room c t room′ (key, (nonce, (ad, (text, more)))) lc lt fits =
-    (key, (nonce, (ad, (rw lc text, (ap not (eq-eqb (length t) 16 lt), (le-ltb (length room′) (length c) (omega arith), tt))))))
+reclear i tag room c t room′ (key, (nonce, («data», (text, more)))) lc lt fits =
+    (key, (nonce, («data», (rw lc text, (ap not (eq-eqb (length t) 16 lt), (le-ltb (length room′) (length c) (omega arith), tt))))))
 
 module _ (cipher : List ℕ → ℕ → ℕ) where
   -- ---- the verdict
@@ -57,39 +57,39 @@ module _ (cipher : List ℕ → ℕ → ℕ) where
 
     comes-back : outputOf cipher (not way) there ≡ i .text
     unfolding there
-    comes-back = round-trip (cipher (i .key)) way (i .nonce) (i .ad) (i .text) .0
+    comes-back = round-trip (cipher (i .key)) way (i .nonce) (i .«data») (i .text) .0
 
     same-tags : tagOf cipher (not way) there ≡ tagOf cipher way i
     unfolding there
-    same-tags = ap (bytes 16) (round-trip (cipher (i .key)) way (i .nonce) (i .ad) (i .text) .1)
+    same-tags = ap (bytes 16) (round-trip (cipher (i .key)) way (i .nonce) (i .«data») (i .text) .1)
 
     out-length : length (outputOf cipher way i) ≡ length (i .text)
-    out-length = length-outputs (cipher (i .key)) way (i .nonce) (i .ad) (i .text)
+    out-length = length-outputs (cipher (i .key)) way (i .nonce) (i .«data») (i .text)
 
     -- what was written is found at the front of the room
     front : (room : List ℕ) → take (length (i .text)) (over (outputOf cipher way i) room) ≡ outputOf cipher way i
     front room = ap (λ (n : ℕ). take n (over (outputOf cipher way i) room)) (sym out-length) ∙ take-over (outputOf cipher way i) room
 
   sealed-opens : (i : Inputs) (room tag room′ : List ℕ) → sealing cipher i room tag .number ≡ 0 → length (i .text) ≤ length room′
-      → let s = sealing cipher i room tag .left in opening cipher (withText i (take (length (i .text)) (s .room))) (s .tag) room′ ≡ answered 0 (over (i .text) room′)
+      → let s = sealing cipher i room tag .outcome in opening cipher (withText i (take (length (i .text)) (s .room))) (s .tag) room′ ≡ answered 0 (over (i .text) room′)
   unfolding sealing there
   sealed-opens i room tag room′ e fits =
       let d = answer-done _ _ (refusals i tag room) tt e in
       let t = tagOf cipher false i in
       let l : length t ≡ 16 = length-bytes 16 _ in
-      ap (λ (a : Answer Sealed). opening cipher (withText i (take (length (i .text)) (a .left .room))) (a .left .tag) room′) (d .1)
+      ap (λ (a : Answer Sealed). opening cipher (withText i (take (length (i .text)) (a .outcome .room))) (a .outcome .tag) room′) (d .1)
       ∙ ap (λ (c : List ℕ). opening cipher (withText i c) t room′) (front i false room)
       ∙ right (there i false) t room′ (bytes-bytes 16 _) (reclear i tag room (outputOf cipher false i) t room′ (d .0) (out-length i false) l fits) (sym (same-tags i false))
       ∙ ap (λ (m : List ℕ). answered 0 (over m room′)) (comes-back i false)
 
   opened-seals : (i : Inputs) (tag room room′ tag′ : List ℕ) → Bytes tag → opening cipher i tag room .number ≡ 0 → length (i .text) ≤ length room′ → length tag′ ≡ 16
-      → let t = take (length (i .text)) (opening cipher i tag room .left) in
+      → let t = take (length (i .text)) (opening cipher i tag room .outcome) in
       sealing cipher (withText i t) room′ tag′ ≡ answered 0 (record { room = over (i .text) room′; tag = tag })
   unfolding sealing there
   opened-seals i tag room room′ tag′ h e fits lt =
       let a = accepted i tag room h e in
       let k = reclear i tag room (outputOf cipher true i) tag′ room′ (a .0) (out-length i true) lt fits in
-      ap (λ (z : Answer (List ℕ)). sealing cipher (withText i (take (length (i .text)) (z .left))) room′ tag′) (right i tag room h (a .0) (a .1))
+      ap (λ (z : Answer (List ℕ)). sealing cipher (withText i (take (length (i .text)) (z .outcome))) room′ tag′) (right i tag room h (a .0) (a .1))
       ∙ ap (λ (m : List ℕ). sealing cipher (withText i m) room′ tag′) (front i true room)
       ∙ refuse-clear _ _ (refusals (there i true) tag′ room′) k
       ∙ ap₂ (λ (c t : List ℕ). answered 0 (record { room = over c room′; tag = t })) (comes-back i true) (same-tags i true ∙ sym (a .1))
@@ -97,12 +97,12 @@ module _ (cipher : List ℕ → ℕ → ℕ) where
 -- ---- all of it
 
 module _ (cipher inverse : List ℕ → ℕ → ℕ) (inv : (key : List ℕ) → Inverted (cipher key) (inverse key)) where
-  differ : (i : Inputs) (d : List ℕ) → Bytes (i .nonce) → length (i .nonce) ≡ 12 → Bytes (i .ad) → Bytes (i .text) → Bytes d → Alike (i .text) d
+  differ : (i : Inputs) (d : List ℕ) → Bytes (i .nonce) → length (i .nonce) ≡ 12 → Bytes (i .«data») → Bytes (i .text) → Bytes d → Alike (i .text) d
       → (i .text ≡ d → ⊥) → tagOf cipher true i ≡ tagOf cipher true (withText i d) → ⊥
   differ i d hn ln ha hc hd al ne e =
       let v = inv (i .key) in
-      ne (same-tag v (i .nonce) (i .ad) (i .text) d hn ln ha hc hd al
-      (sym (number-bytes 16 _ (tag-lt v true (i .nonce) (i .ad) (i .text) hn ln ha hc)) ∙ ap number e ∙ number-bytes 16 _ (tag-lt v true (i .nonce) (i .ad) d hn ln ha hd)))
+      ne (same-tag v (i .nonce) (i .«data») (i .text) d hn ln ha hc hd al
+      (sym (number-bytes 16 _ (tag-lt v true (i .nonce) (i .«data») (i .text) hn ln ha hc)) ∙ ap number e ∙ number-bytes 16 _ (tag-lt v true (i .nonce) (i .«data») d hn ln ha hd)))
 
   pub demands : Demands cipher
   demands =

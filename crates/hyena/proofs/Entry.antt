@@ -18,42 +18,43 @@ use Rattle.answers.specs.Answers.{answered}
 use Rattle.answers.proofs.Answers.{Clear, refuse-clear}
 use Rattle.gift.specs.Gift.{encipher}
 use Rattle.gift.proofs.Entry.{enciphers-is}
-use Rattle.mode.specs.Hyena.{State, startBlock, dataFirst, afterData, afterText, swapped, ended, outputs, tag}
+use Rattle.mode.specs.Hyena as mode
+use Rattle.mode.specs.Hyena.{startBlock, dataFirst, afterData, afterText, swapped, ended, outputs, tag}
 use Rattle.mode.proofs.Trip.{data-out, length-outputs}
 use Rattle.hyena_blocks.specs.declared.keyed.Keyed.{Keyed}
-use Rattle.hyena_blocks.specs.declared.Before.{Before}
-use Rattle.hyena_blocks.specs.declared.After.{After}
-use Rattle.hyena_blocks.specs.Steps.{keyed, enciphers, heldBefore, heldAfter, fedOf, stateOf, started, tagged}
-use Rattle.hyena_blocks.proofs.Steps.{fed-held, state-held}
+use Rattle.hyena_blocks.specs.declared.StateY.{StateY}
+use Rattle.hyena_blocks.specs.declared.StateX.{StateX}
+use Rattle.hyena_blocks.specs.Steps.{keyed, enciphers, heldY, heldX, readY, readX, started, tagged}
+use Rattle.hyena_blocks.proofs.Steps.{readY-held, readX-held}
 use Rattle.hyena.specs.Entry.{Inputs, refusals, outputOf, tagOf, Sealing, sealing, Opening, opening, gift}
 
 -- ---- the steps, one after the other
 
-ended-is : (E : ℕ → ℕ) (way : Bool) (nonce a d : List ℕ) {s : Before} {t : After} → s ≡ heldBefore (dataFirst (E (startBlock nonce (length a) (length d))))
-    → t ≡ heldAfter (afterData E (fedOf s) a) → afterText E way (stateOf t) d ≡ ended E way nonce a d
+ended-is : (E : ℕ → ℕ) (way : Bool) (nonce a d : List ℕ) {s : StateY} {t : StateX} → s ≡ heldY (dataFirst (E (startBlock nonce (length a) (length d))))
+    → t ≡ heldX (afterData E (readY s) a) → afterText E way (readX t) d ≡ ended E way nonce a d
 unfolding ended
 ended-is E way nonce a d {s} {t} es et =
     let f = dataFirst (E (startBlock nonce (length a) (length d))) in
-    let ef : fedOf s ≡ f = ap fedOf es ∙ fed-held f in
-    ap (λ (u : State). afterText E way u d) (ap stateOf (et ∙ ap (λ g. heldAfter (afterData E g a)) ef) ∙ state-held (afterData E f a) (data-out E f a))
+    let ef : readY s ≡ f = ap readY es ∙ readY-held f in
+    ap (λ (u : mode.StateX). afterText E way u d) (ap readX (et ∙ ap (λ g. heldX (afterData E g a)) ef) ∙ readX-held (afterData E f a) (data-out E f a))
 
 keyed-is : (k : ℕ) → enciphers (keyed k) ≡ encipher k
 unfolding enciphers keyed
 keyed-is k = fun-ext (enciphers-is k)
 
-pub ran : (way : Bool) (key nonce a d room : List ℕ) (e : Keyed) {k r : Block} {s : Before} {t u : After} {room′ : List ℕ} → length key ≡ 16 → length nonce ≡ 12
-    → k ≡ halves (loaded key 0 16) → e ≡ keyed (value k) → s ≡ started e nonce (length a) (length d) → t ≡ heldAfter (afterData (enciphers e) (fedOf s) a)
-    → u ≡ heldAfter (afterText (enciphers e) way (stateOf t) d) → room′ ≡ sets room 0 (afterText (enciphers e) way (stateOf t) d .out) → r ≡ tagged e u
+pub ran : (way : Bool) (key nonce a d room : List ℕ) (e : Keyed) {k r : Block} {s : StateY} {t u : StateX} {room′ : List ℕ} → length key ≡ 16 → length nonce ≡ 12
+    → k ≡ halves (loaded key 0 16) → e ≡ keyed (value k) → s ≡ started e nonce (length a) (length d) → t ≡ heldX (afterData (enciphers e) (readY s) a)
+    → u ≡ heldX (afterText (enciphers e) way (readX t) d) → room′ ≡ sets room 0 (afterText (enciphers e) way (readX t) d .out) → r ≡ tagged e u
     → (r ≡ halves (tag (gift key) way nonce a d)) × (room′ ≡ sets room 0 (outputs (gift key) way nonce a d))
-unfolding tag outputs heldAfter
+unfolding tag outputs heldX
 ran way key nonce a d room e {k} {r} {s} {t} {u} {room′} lk ln ek ee es et eu er et′ =
     let E = enciphers e in
     let eE : E ≡ gift key = ap enciphers ee ∙ keyed-is (value k) ∙ ap encipher (value-is ek ∙ loaded-all key lk) in
-    let en : afterText E way (stateOf t) d ≡ ended E way nonce a d =
-    ended-is E way nonce a d (es ∙ ap (λ (n : List ℕ). heldBefore (dataFirst (E (startBlock n (length a) (length d))))) (take-all 12 nonce (omega arith))) et in
-    let ex : value (u .x) ≡ ended E way nonce a d .X = ap (λ (z : After). value (z .x)) eu ∙ value-halves _ ∙ ap (λ (z : State). z .X) en in (
+    let en : afterText E way (readX t) d ≡ ended E way nonce a d =
+    ended-is E way nonce a d (es ∙ ap (λ (n : List ℕ). heldY (dataFirst (E (startBlock n (length a) (length d))))) (take-all 12 nonce (omega arith))) et in
+    let ex : value (u .x) ≡ ended E way nonce a d .X = ap (λ (z : StateX). value (z .x)) eu ∙ value-halves _ ∙ ap (λ (z : mode.StateX). z .X) en in (
       et′ ∙ ap (λ (x : ℕ). halves (E (swapped x))) ex ∙ ap (λ F. halves (F (swapped (ended F way nonce a d .X)))) eE,
-      er ∙ ap (λ (z : State). sets room 0 (z .out)) en ∙ ap (λ F. sets room 0 (ended F way nonce a d .out)) eE,
+      er ∙ ap (λ (z : mode.StateX). sets room 0 (z .out)) en ∙ ap (λ F. sets room 0 (ended F way nonce a d .out)) eE,
     )
 
 -- ---- the lengths that are not refused
@@ -61,17 +62,17 @@ ran way key nonce a d room e {k} {r} {s} {t} {u} {room′} lk ln ek ee es et eu 
 pub record Allowed (i : Inputs) (tag room : List ℕ) : Type 0 where
   pub key-16 : length (i .key) ≡ 16
   pub nonce-12 : length (i .nonce) ≡ 12
-  pub ad-most : length (i .ad) ≤ 65536
+  pub ad-most : length (i .«data») ≤ 65536
   pub text-most : length (i .text) ≤ 1048576
   pub tag-16 : length tag ≡ 16
   pub room-fits : length (i .text) ≤ length room
 
 pub allowed : (i : Inputs) (tag room : List ℕ) → Clear (refusals i tag room) → Allowed i tag room
-allowed i tag room (key, (nonce, (ad, (text, (tag′, (room′, none)))))) =
+allowed i tag room (key, (nonce, («data», (text, (tag′, (room′, none)))))) =
     record {
       key-16 = eqb-true _ _ (not-false _ key);
       nonce-12 = eqb-true _ _ (not-false _ nonce);
-      ad-most = ltb-false _ _ ad;
+      ad-most = ltb-false _ _ «data»;
       text-most = ltb-false _ _ text;
       tag-16 = eqb-true _ _ (not-false _ tag′);
       room-fits = ltb-false _ _ room′;
@@ -82,7 +83,7 @@ allowed i tag room (key, (nonce, (ad, (text, (tag′, (room′, none)))))) =
 module _ (cipher : List ℕ → ℕ → ℕ) (i : Inputs) where
   -- what was written to the front of a room that is long enough
   written : (way : Bool) (room : List ℕ) → length (i .text) ≤ length room → sets room 0 (outputOf cipher way i) ≡ over (outputOf cipher way i) room
-  written way room fits = sets-front (outputOf cipher way i) room (omega (arith, length-outputs (cipher (i .key)) way (i .nonce) (i .ad) (i .text)))
+  written way room fits = sets-front (outputOf cipher way i) room (omega (arith, length-outputs (cipher (i .key)) way (i .nonce) (i .«data») (i .text)))
 
   -- a call that is not refused by its lengths goes by the tag
   pub opening-by : (tag room : List ℕ) → Clear (refusals i tag room) → (t : Bool) → eqb (number tag) (number (tagOf cipher true i)) ≡ t
@@ -92,7 +93,7 @@ module _ (cipher : List ℕ → ℕ → ℕ) (i : Inputs) where
   opening-by tag room c false e = refuse-clear room _ (refusals i tag room) c ∙ rw e
 
   module _ (tag₀ room : List ℕ) (c : Clear (refusals i tag₀ room)) where
-    pub sealed-is : {t : Block} {room′ tag′ : List ℕ} → t ≡ halves (tag (cipher (i .key)) false (i .nonce) (i .ad) (i .text)) → room′ ≡ sets room 0 (outputOf cipher false i)
+    pub sealed-is : {t : Block} {room′ tag′ : List ℕ} → t ≡ halves (tag (cipher (i .key)) false (i .nonce) (i .«data») (i .text)) → room′ ≡ sets room 0 (outputOf cipher false i)
         → tag′ ≡ stored tag₀ 0 16 (value t) → Sealing cipher 0 i room tag₀ room′ tag′
     unfolding sealing
     sealed-is {t} et er eg =
@@ -101,7 +102,7 @@ module _ (cipher : List ℕ → ℕ → ℕ) (i : Inputs) where
         (eg ∙ stored-all tag₀ (value t) (l .tag-16) ∙ ap (bytes 16) (value-is et))
         ∙ sym (refuse-clear _ _ (refusals i tag₀ room) c)
 
-    module _ {t l : Block} {room₁ : List ℕ} (lo : t .lo < 2 ^ 64) (hi : t .hi < 2 ^ 64) (et : t ≡ halves (tag (cipher (i .key)) true (i .nonce) (i .ad) (i .text)))
+    module _ {t l : Block} {room₁ : List ℕ} (lo : t .lo < 2 ^ 64) (hi : t .hi < 2 ^ 64) (et : t ≡ halves (tag (cipher (i .key)) true (i .nonce) (i .«data») (i .text)))
         (er : room₁ ≡ sets room 0 (outputOf cipher true i)) (el : l ≡ halves (loaded tag₀ 0 16)) where
       -- what is compared
       compared : eqb (value l) (value t) ≡ eqb (number tag₀) (number (tagOf cipher true i))
@@ -120,5 +121,5 @@ module _ (cipher : List ℕ → ℕ → ℕ) (i : Inputs) where
           let n = length (i .text) in
           ap (answered 7) (ew ∙ ap (over (replicate n 0)) text-there
           ∙ over-over (replicate n 0) (outputOf cipher true i) room
-          (length-replicate n 0 ∙ sym (length-outputs (cipher (i .key)) true (i .nonce) (i .ad) (i .text))))
+          (length-replicate n 0 ∙ sym (length-outputs (cipher (i .key)) true (i .nonce) (i .«data») (i .text))))
           ∙ sym (opening-by tag₀ room c false (sym compared ∙ e))

@@ -1,4 +1,4 @@
 pub mod Steps
 pub mod Entry
 pub mod Demands
-pub mod Single
+pub mod Unique

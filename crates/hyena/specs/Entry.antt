@@ -13,10 +13,10 @@ use Rattle.mode.specs.Hyena.{outputs, tag}
 -- of the six lengths: 1 "key has a wrong length", 2 "nonce or iv has a wrong length", 3 "associated data too long", 4 "text or block
 -- length not allowed", 5 "tag, or room for it, not 16 bytes", 6 "room too short"
 abbrev pub rows : ℕ → ℕ → ℕ → ℕ → ℕ → ℕ → List Row
-rows key nonce ad text tag room =
+rows key nonce «data» text tag room =
     record { applies = not (eqb key 16); number = 1 }
     ∷ record { applies = not (eqb nonce 12); number = 2 }
-    ∷ record { applies = ltb 65536 ad; number = 3 }
+    ∷ record { applies = ltb 65536 «data»; number = 3 }
     ∷ record { applies = ltb 1048576 text; number = 4 }
     ∷ record { applies = not (eqb tag 16); number = 5 }
     ∷ record { applies = ltb room text; number = 6 }
@@ -26,11 +26,11 @@ rows key nonce ad text tag room =
 pub record Inputs : Type 0 where
   pub key : List ℕ
   pub nonce : List ℕ
-  pub ad : List ℕ
+  pub «data» : List ℕ
   pub text : List ℕ
 
 abbrev pub inputs : List ℕ → List ℕ → List ℕ → List ℕ → Inputs
-inputs key nonce ad text = record { key = key; nonce = nonce; ad = ad; text = text }
+inputs key nonce «data» text = record { key = key; nonce = nonce; «data» = «data»; text = text }
 
 -- "A short form of sealing and opening takes no associated data and uses the empty one."
 abbrev pub short : List ℕ → List ℕ → List ℕ → Inputs
@@ -38,7 +38,7 @@ short key nonce text = inputs key nonce [] text
 
 -- with a tag, or room for it, and room for the text
 abbrev pub refusals : Inputs → List ℕ → List ℕ → List Row
-refusals i tag room = rows (length (i .key)) (length (i .nonce)) (length (i .ad)) (length (i .text)) (length tag) (length room)
+refusals i tag room = rows (length (i .key)) (length (i .nonce)) (length (i .«data»)) (length (i .text)) (length tag) (length room)
 
 -- the memory that sealing writes
 pub record Sealed : Type 0 where
@@ -49,10 +49,10 @@ pub record Sealed : Type 0 where
 module _ (cipher : List ℕ → ℕ → ℕ) where
   -- the ciphertext of a text, or the text of a ciphertext, and the tag of either
   abbrev pub outputOf : Bool → Inputs → List ℕ
-  outputOf opening i = outputs (cipher (i .key)) opening (i .nonce) (i .ad) (i .text)
+  outputOf opening i = outputs (cipher (i .key)) opening (i .nonce) (i .«data») (i .text)
 
   abbrev pub tagOf : Bool → Inputs → List ℕ
-  tagOf opening i = bytes 16 (tag (cipher (i .key)) opening (i .nonce) (i .ad) (i .text))
+  tagOf opening i = bytes 16 (tag (cipher (i .key)) opening (i .nonce) (i .«data») (i .text))
 
   -- ---- sealing: the number that is answered, and what room and tag hold then
 

@@ -9,29 +9,29 @@ ghost use Rattle.words.specs.Block.{value, halves, part};
 ghost use Rattle.words.specs.Bytes.{over};
 ghost use Rattle.answers.specs.Answers.{numberOf};
 ghost use Rattle.mode.specs.Hyena.{output, afterData, textBlock, afterText, outputs, tag};
-ghost use Rattle.hyena_blocks.specs.Steps.{enciphers, heldAfter, fedOf, stateOf};
+ghost use Rattle.hyena_blocks.specs.Steps.{enciphers, heldX, readY, readX};
 ghost use Rattle.hyena.specs.Entry.{rows, inputs, short, Sealing, Opening, gift};
 use answers::row;
-use hyena_blocks::After;
-use hyena_blocks::Before;
+use hyena_blocks::StateX;
+use hyena_blocks::StateY;
 use hyena_blocks::keyed::Keyed;
 use words::Block;
 
-// Writes the ciphertext of text to room and its tag to tag. Answers 0, or the refusal.
+// Writes the ciphertext of text to room, whose rest keeps its bytes, and its tag to tag. Answers 0, or the refusal.
 pub fn seal(
     key: &[u8],
     nonce: &[u8],
-    ad: &[u8],
+    data: &[u8],
     text: &[u8],
     room: &mut [u8],
     tag: &mut [u8],
 ) -> u32
-    ensures { λ r. ⌜ Sealing gift r (inputs (now (key .entry)) (now (nonce .entry)) (now (ad .entry)) (now (text .entry))) (now (room .entry)) (now (tag .entry)) (now (room .exit)) (now (tag .exit)) ⌝ }
+    ensures { λ r. ⌜ Sealing gift r (inputs (now (key .entry)) (now (nonce .entry)) (now («data» .entry)) (now (text .entry))) (now (room .entry)) (now (tag .entry)) (now (room .exit)) (now (tag .exit)) ⌝ }
 {
     let refused = refusal(
         key.len(),
         nonce.len(),
-        ad.len(),
+        data.len(),
         text.len(),
         tag.len(),
         room.len(),
@@ -39,26 +39,27 @@ pub fn seal(
     if refused != 0 {
         return refused;
     }
-    let t = run(false, key, nonce, ad, text, room);
+    let t = run(false, key, nonce, data, text, room);
     words::store(tag, 0, 16, t);
     0
 }
 
-// Writes the text of ciphertext to room if tag is its tag, and zeros otherwise. Answers 0, or the refusal.
+// Writes the text of ciphertext to room, whose rest keeps its bytes, if tag is its tag, and as many zeros if it is not.
+// Answers 0, or the refusal.
 pub fn open(
     key: &[u8],
     nonce: &[u8],
-    ad: &[u8],
+    data: &[u8],
     ciphertext: &[u8],
     tag: &[u8],
     room: &mut [u8],
 ) -> u32
-    ensures { λ r. ⌜ Opening gift r (inputs (now (key .entry)) (now (nonce .entry)) (now (ad .entry)) (now (ciphertext .entry))) (now (tag .entry)) (now (room .entry)) (now (room .exit)) ⌝ }
+    ensures { λ r. ⌜ Opening gift r (inputs (now (key .entry)) (now (nonce .entry)) (now («data» .entry)) (now (ciphertext .entry))) (now (tag .entry)) (now (room .entry)) (now (room .exit)) ⌝ }
 {
     let refused = refusal(
         key.len(),
         nonce.len(),
-        ad.len(),
+        data.len(),
         ciphertext.len(),
         tag.len(),
         room.len(),
@@ -66,7 +67,7 @@ pub fn open(
     if refused != 0 {
         return refused;
     }
-    let t = run(true, key, nonce, ad, ciphertext, room);
+    let t = run(true, key, nonce, data, ciphertext, room);
     if words::equal(words::load(tag, 0, 16), t) {
         return 0;
     }
@@ -77,14 +78,14 @@ pub fn open(
 // The associated data of the short forms.
 const SHORT_DATA: [u8; 0] = [];
 
-// Seals with the short form's associated data.
+// Seals with the associated data of the short form, which is empty; otherwise `seal`.
 pub fn seal_short(key: &[u8], nonce: &[u8], text: &[u8], room: &mut [u8], tag: &mut [u8]) -> u32
     ensures { λ r. ⌜ Sealing gift r (short (now (key .entry)) (now (nonce .entry)) (now (text .entry))) (now (room .entry)) (now (tag .entry)) (now (room .exit)) (now (tag .exit)) ⌝ }
 {
     seal(key, nonce, &SHORT_DATA, text, room, tag)
 }
 
-// Opens with the short form's associated data.
+// Opens with the associated data of the short form, which is empty; otherwise `open`.
 pub fn open_short(key: &[u8], nonce: &[u8], ciphertext: &[u8], tag: &[u8], room: &mut [u8]) -> u32
     ensures { λ r. ⌜ Opening gift r (short (now (key .entry)) (now (nonce .entry)) (now (ciphertext .entry))) (now (tag .entry)) (now (room .entry)) (now (room .exit)) ⌝ }
 {
@@ -92,52 +93,57 @@ pub fn open_short(key: &[u8], nonce: &[u8], ciphertext: &[u8], tag: &[u8], room:
 }
 
 // The refusal that the lengths call for, or 0: the rows from the last up.
-fn refusal(key: usize, nonce: usize, ad: usize, text: usize, tag: usize, room: usize) -> u32
-    ensures { λ r. ⌜ r ≡ numberOf (rows key nonce ad text tag room) ⌝ }
+fn refusal(key: usize, nonce: usize, data: usize, text: usize, tag: usize, room: usize) -> u32
+    ensures { λ r. ⌜ r ≡ numberOf (rows key nonce «data» text tag room) ⌝ }
 {
     let six = row(room < text, 6, 0);
     let five = row(tag != 16, 5, six);
     let four = row(text > 1048576, 4, five);
-    let three = row(ad > 65536, 3, four);
+    let three = row(data > 65536, 3, four);
     let two = row(nonce != 12, 2, three);
     row(key != 16, 1, two)
 }
 
 // Both ways, where nothing is refused: writes what comes out to room, as far as that goes, and answers the tag.
-fn run(opening: bool, key: &[u8], nonce: &[u8], ad: &[u8], text: &[u8], room: &mut [u8]) -> Block
+fn run(opening: bool, key: &[u8], nonce: &[u8], data: &[u8], text: &[u8], room: &mut [u8]) -> Block
     requires { ⌜ (length (now key) ≡ 16) × (length (now nonce) ≡ 12) ⌝ }
-    ensures { λ r. ⌜ (r ≡ halves (tag (gift (now (key .entry))) opening (now (nonce .entry)) (now (ad .entry)) (now (text .entry))))
-        × (now (room .exit) ≡ sets (now (room .entry)) 0 (outputs (gift (now (key .entry))) opening (now (nonce .entry)) (now (ad .entry)) (now (text .entry)))) ⌝ }
+    ensures { λ r. ⌜ (r ≡ halves (tag (gift (now (key .entry))) opening (now (nonce .entry)) (now («data» .entry)) (now (text .entry))))
+        × (now (room .exit) ≡ sets (now (room .entry)) 0 (outputs (gift (now (key .entry))) opening (now (nonce .entry)) (now («data» .entry)) (now (text .entry)))) ⌝ }
 {
     let e = hyena_blocks::keyed::keyed_of(words::load(key, 0, 16));
-    let s = hyena_blocks::start(e, nonce, ad.len(), text.len());
-    let t = data(e, s, ad);
-    let u = texts(opening, e, t, text, room);
+    let s = hyena_blocks::start(e, nonce, data.len(), text.len());
+    let t = all_data(e, s, data);
+    let u = all_text(opening, e, t, text, room);
     hyena_blocks::tag_of(e, u)
 }
 
 // All of the associated data.
-fn data(e: Keyed, b: Before, ad: &[u8]) -> After
-    ensures { λ r. ⌜ r ≡ heldAfter (afterData (enciphers e) (fedOf b) (now (ad .entry))) ⌝ }
+fn all_data(e: Keyed, b: StateY, data: &[u8]) -> StateX
+    ensures { λ r. ⌜ r ≡ heldX (afterData (enciphers e) (readY b) (now («data» .entry))) ⌝ }
 {
-    if ad.len() == 0 {
+    if data.len() == 0 {
         return hyena_blocks::data_last(b, 2, Block { lo: 1, hi: 0 }, 16);
     }
-    let n = (ad.len() - 1) / 16;
+    let n = (data.len() - 1) / 16;
     let mut s = b;
     let mut i = 0;
     while i < n {
-        s = hyena_blocks::data_block(e, s, words::load(ad, 16 * i, 16));
+        s = hyena_blocks::data_block(e, s, words::load(data, 16 * i, 16));
         i += 1;
     }
-    let left = ad.len() - 16 * n;
-    hyena_blocks::data_last(s, if_full(left, 1, 2), words::load(ad, 16 * n, left), left)
+    let last = data.len() - 16 * n;
+    hyena_blocks::data_last(
+        s,
+        if_full(last, 1, 2),
+        words::load(data, 16 * n, last),
+        last,
+    )
 }
 
 // All of the text. What comes out goes to room; what that is too short for is not written.
-fn texts(opening: bool, e: Keyed, t: After, text: &[u8], room: &mut [u8]) -> After
-    ensures { λ r. ⌜ (r ≡ heldAfter (afterText (enciphers e) opening (stateOf t) (now (text .entry))))
-        × (now (room .exit) ≡ sets (now (room .entry)) 0 (afterText (enciphers e) opening (stateOf t) (now (text .entry)) .out)) ⌝ }
+fn all_text(opening: bool, e: Keyed, t: StateX, text: &[u8], room: &mut [u8]) -> StateX
+    ensures { λ r. ⌜ (r ≡ heldX (afterText (enciphers e) opening (readX t) (now (text .entry))))
+        × (now (room .exit) ≡ sets (now (room .entry)) 0 (afterText (enciphers e) opening (readX t) (now (text .entry)) .out)) ⌝ }
 {
     if text.len() == 0 {
         return t;
@@ -149,28 +155,28 @@ fn texts(opening: bool, e: Keyed, t: After, text: &[u8], room: &mut [u8]) -> Aft
         s = text_part(opening, e, s, 1, text, 16 * i, 16, room);
         i += 1;
     }
-    let left = text.len() - 16 * n;
-    text_part(opening, e, s, if_full(left, 2, 3), text, 16 * n, left, room)
+    let last = text.len() - 16 * n;
+    text_part(opening, e, s, if_full(last, 2, 3), text, 16 * n, last, room)
 }
 
 // The block of n bytes of text from at on, what comes out of it to the same place of room.
 fn text_part(
     opening: bool,
     e: Keyed,
-    t: After,
+    t: StateX,
     k: u64,
     text: &[u8],
     at: usize,
     n: usize,
     room: &mut [u8],
-) -> After
+) -> StateX
     requires { ⌜ (n ≤ 16) × (at + n ≤ length (now text)) ⌝ }
-    ensures { λ r. ⌜ (r ≡ heldAfter (textBlock (enciphers e) opening k (stateOf t) (part (now (text .entry)) at n)))
+    ensures { λ r. ⌜ (r ≡ heldX (textBlock (enciphers e) opening k (readX t) (part (now (text .entry)) at n)))
         × (now (room .exit) ≡ sets (now (room .entry)) at (output (part (now (text .entry)) at n) (enciphers e (value (t .x))))) ⌝ }
 {
     let u = hyena_blocks::text_block(opening, e, t, k, words::load(text, at, n), n);
     words::store(room, at, n, u.out);
-    u.after
+    u.state
 }
 
 // a for a last block of n bytes that is full, b for one that is partial.

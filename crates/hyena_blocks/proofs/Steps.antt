@@ -18,11 +18,12 @@ use Rattle.words.proofs.Lists.{drop-take}
 use Rattle.words.proofs.Plus.{plus-take, bytes-xor}
 use Rattle.words.proofs.Tests.{cond-of}
 use Rattle.words.proofs.WordLists.{loaded-word, word-lt}
-use Rattle.mode.specs.Hyena.{Fed, State, double, doubles, output, feedback, feed, startBlock, dataFirst, dataEach, dataLast, textBlock, swapped}
-use Rattle.hyena_blocks.specs.declared.Before.{Before}
-use Rattle.hyena_blocks.specs.declared.After.{After}
-use Rattle.hyena_blocks.specs.declared.Turn.{Turn}
-use Rattle.hyena_blocks.specs.Steps.{low, heldBefore, heldAfter, fedOf, stateOf}
+use Rattle.mode.specs.Hyena as mode
+use Rattle.mode.specs.Hyena.{double, doubles, output, feedback, feed, startBlock, dataFirst, dataEach, dataLast, textBlock, swapped}
+use Rattle.hyena_blocks.specs.declared.StateY.{StateY}
+use Rattle.hyena_blocks.specs.declared.StateX.{StateX}
+use Rattle.hyena_blocks.specs.declared.Fed.{Fed}
+use Rattle.hyena_blocks.specs.Steps.{low, heldY, heldX, readY, readX}
 
 -- ---- doubling
 
@@ -47,12 +48,12 @@ unfolding loadedPad
 padded-is s n x es eb =
     eb ∙ ap (λ (l : List ℕ). halves (number (pad l))) (ap (λ (l : List ℕ). part l 0 n) es ∙ stored-back (replicate 16 0) n x refl)
 
-pub fed-is : (t : Bool) (y d o m c : Block) (mask n : ℕ) {r : Block} → o ≡ halves (bitXor (value d) (value y))
+pub feedback-is : (t : Bool) (y d o m c : Block) (mask n : ℕ) {r : Block} → o ≡ halves (bitXor (value d) (value y))
     → m ≡ halves (number (pad (low n (value (cond t o d))))) → c ≡ halves (number (pad (low n (value (cond t d o)))))
     → r ≡ halves (bitXor (value y) (value (record { lo = bitXor (c .lo) mask; hi = m .hi })))
     → r ≡ halves (feed t (value y) mask (low n (value d)))
 unfolding feed feedback value halves
-fed-is t y d o m c mask n eo em ec er =
+feedback-is t y d o m c mask n eo em ec er =
     let s = low n (value d) in
     let out : low n (value o) ≡ output s (value y) = ap (low n) (value-is eo) ∙ low-xor n (value d) (value y) in
     let sideM : low n (value (cond t o d)) ≡ cond t (output s (value y)) s = cond-of (λ b. low n (value b)) t o d ∙ ap (λ l. cond t l s) out in
@@ -82,39 +83,39 @@ start-is nonce a d m {p} {q} h ep eq em =
 
 -- ---- the states as the code holds them
 
-pub held-fed : (b : Before) → b .y .lo < 2 ^ 64 → b ≡ heldBefore (fedOf b)
-unfolding heldBefore
-held-fed b h = ap (λ (y : Block). record { y = y; mask = b .mask }) (sym (halves-value (b .y) h))
+pub held-readY : (b : StateY) → b .y .lo < 2 ^ 64 → b ≡ heldY (readY b)
+unfolding heldY
+held-readY b h = ap (λ (y : Block). record { y = y; mask = b .mask }) (sym (halves-value (b .y) h))
 
-pub fed-held : (f : Fed) → fedOf (heldBefore f) ≡ f
-unfolding heldBefore
-fed-held f = ap (λ (y : ℕ). record { Y = y; Δ = f .Δ }) (value-halves (f .Y))
+pub readY-held : (f : mode.StateY) → readY (heldY f) ≡ f
+unfolding heldY
+readY-held f = ap (λ (y : ℕ). record { Y = y; Δ = f .Δ }) (value-halves (f .Y))
 
-pub held-state : (t : After) → t .x .lo < 2 ^ 64 → t ≡ heldAfter (stateOf t)
-unfolding heldAfter
-held-state t h = ap (λ (x : Block). record { x = x; mask = t .mask }) (sym (halves-value (t .x) h))
+pub held-readX : (t : StateX) → t .x .lo < 2 ^ 64 → t ≡ heldX (readX t)
+unfolding heldX
+held-readX t h = ap (λ (x : Block). record { x = x; mask = t .mask }) (sym (halves-value (t .x) h))
 
-pub state-held : (t : State) → t .out ≡ [] → stateOf (heldAfter t) ≡ t
-unfolding heldAfter
-state-held t e = ap₂ (λ (x : ℕ) (o : List ℕ). record { X = x; Δ = t .Δ; out = o }) (value-halves (t .X)) (sym e)
+pub readX-held : (t : mode.StateX) → t .out ≡ [] → readX (heldX t) ≡ t
+unfolding heldX
+readX-held t e = ap₂ (λ (x : ℕ) (o : List ℕ). record { X = x; Δ = t .Δ; out = o }) (value-halves (t .X)) (sym e)
 
 -- ---- the steps
 
-pub data-last-is : (b : Before) (k n : ℕ) (d : Block) {mask : ℕ} {x : Block} → mask ≡ doubles k (b .mask) → x ≡ halves (feed false (value (b .y)) mask (low n (value d)))
-    → record { x = x; mask = mask } ≡ heldAfter (dataLast k (fedOf b) (low n (value d)))
-unfolding heldAfter dataLast
+pub data-last-is : (b : StateY) (k n : ℕ) (d : Block) {mask : ℕ} {x : Block} → mask ≡ doubles k (b .mask) → x ≡ halves (feed false (value (b .y)) mask (low n (value d)))
+    → record { x = x; mask = mask } ≡ heldX (dataLast k (readY b) (low n (value d)))
+unfolding heldX dataLast
 data-last-is b k n d em ex = rw (ex, em)
 
-pub data-block-is : (E : ℕ → ℕ) (b : Before) (d : Block) {x y : Block} {mask : ℕ} → x ≡ halves (feed false (value (b .y)) (b .mask) (low 16 (value d))) → y ≡ halves (E (value x))
-    → mask ≡ double (b .mask) → record { y = y; mask = mask } ≡ heldBefore (dataEach E (fedOf b) (low 16 (value d)))
-unfolding heldBefore dataEach
+pub data-block-is : (E : ℕ → ℕ) (b : StateY) (d : Block) {x y : Block} {mask : ℕ} → x ≡ halves (feed false (value (b .y)) (b .mask) (low 16 (value d))) → y ≡ halves (E (value x))
+    → mask ≡ double (b .mask) → record { y = y; mask = mask } ≡ heldY (dataEach E (readY b) (low 16 (value d)))
+unfolding heldY dataEach
 data-block-is E b d ex ey em = rw (em, ey, value-is ex)
 
-pub text-block-is : (E : ℕ → ℕ) (opening : Bool) (t : After) (k n : ℕ) (d : Block) {mask : ℕ} {x y o : Block} → mask ≡ doubles k (t .mask) → y ≡ halves (E (value (t .x)))
+pub text-block-is : (E : ℕ → ℕ) (opening : Bool) (t : StateX) (k n : ℕ) (d : Block) {mask : ℕ} {x y o : Block} → mask ≡ doubles k (t .mask) → y ≡ halves (E (value (t .x)))
     → x ≡ halves (feed opening (value y) mask (low n (value d))) → o ≡ halves (bitXor (value d) (value y))
-    → _≡_ {A = Turn} (record { after = record { x = x; mask = mask }; out = o })
-    (record { after = heldAfter (textBlock E opening k (stateOf t) (low n (value d))); out = halves (bitXor (value d) (E (value (t .x)))) })
-unfolding heldAfter textBlock
+    → _≡_ {A = Fed} (record { state = record { x = x; mask = mask }; out = o })
+    (record { state = heldX (textBlock E opening k (readX t) (low n (value d))); out = halves (bitXor (value d) (E (value (t .x)))) })
+unfolding heldX textBlock
 text-block-is E opening t k n d em ey ex eo = rw (eo, ex, em, value-is ey)
 
 pub swapped-is : (x : Block) → x .lo < 2 ^ 64 → value (record { lo = x .hi; hi = x .lo }) ≡ swapped (value x)
@@ -122,6 +123,6 @@ unfolding value swapped
 swapped-is x h = ap₂ (λ (l r : ℕ). l * 2 ^ 64 + r) (sym (low-digits (x .hi) 64 h)) (sym (high (x .hi) 64 h))
 
 pub started-is : (E : ℕ → ℕ) (n : ℕ) (x : Block) {y : Block} {mask : ℕ} → value x ≡ n → y ≡ halves (E (value x)) → mask ≡ double (y .lo)
-    → record { y = y; mask = mask } ≡ heldBefore (dataFirst (E n))
-unfolding heldBefore dataFirst halves
+    → record { y = y; mask = mask } ≡ heldY (dataFirst (E n))
+unfolding heldY dataFirst halves
 started-is E n x ex ey em = rw (em, ey, ex)

@@ -13,48 +13,48 @@ pub mod keyed; // keyed.rt: the cipher
 use keyed::Keyed;
 use words::Block;
 
-// Before a block of associated data: Y, and the mask.
-pub struct Before {
+// State Y, into which a block is fed, and the mask.
+pub struct StateY {
     pub y: Block,
     pub mask: u64,
 }
 
-// After a block: X, and the mask that it was fed with.
-pub struct After {
+// The new state X, and the mask that the block was fed with.
+pub struct StateX {
     pub x: Block,
     pub mask: u64,
 }
 
-// What a block of text leads to, and what comes out.
-pub struct Turn {
-    pub after: After,
+// A block of text, fed: the new state, and what comes out.
+pub struct Fed {
+    pub state: StateX,
     pub out: Block,
 }
 
-// The start, from the first 12 bytes of the nonce and the two lengths.
-pub fn start(e: Keyed, nonce: &[u8], ad: usize, text: usize) -> Before
-    ensures { λ r. ⌜ r ≡ started e (now (nonce .entry)) ad text ⌝ }
+// State Y before the associated data, from the first 12 bytes of the nonce and the two lengths.
+pub fn start(e: Keyed, nonce: &[u8], data: usize, text: usize) -> StateY
+    ensures { λ r. ⌜ r ≡ started e (now (nonce .entry)) «data» text ⌝ }
 {
     let low = words::load(nonce, 0, 4);
     let high = words::load(nonce, 4, 8);
     let y = keyed::block(
         e,
         Block {
-            lo: (low.lo << 32) + marks(ad, text),
+            lo: (low.lo << 32) + marks(data, text),
             hi: high.lo,
         },
     );
-    Before {
+    StateY {
         y: y,
         mask: double_of(y.lo),
     }
 }
 
 // b1 and b0.
-fn marks(ad: usize, text: usize) -> u64
-    ensures { λ r. ⌜ (r ≡ cond (eqb ad 0) (cond (eqb text 0) 3 1) 0) × (r < 4) ⌝ }
+fn marks(data: usize, text: usize) -> u64
+    ensures { λ r. ⌜ (r ≡ cond (eqb «data» 0) (cond (eqb text 0) 3 1) 0) × (r < 4) ⌝ }
 {
-    if ad != 0 {
+    if data != 0 {
         return 0;
     }
     if text != 0 {
@@ -63,44 +63,45 @@ fn marks(ad: usize, text: usize) -> u64
     3
 }
 
-// A block of associated data that is not the last.
-pub fn data_block(e: Keyed, b: Before, d: Block) -> Before
+// The next state Y after a block of associated data that is not the last.
+pub fn data_block(e: Keyed, b: StateY, d: Block) -> StateY
     ensures { λ r. ⌜ r ≡ dataFed e b d ⌝ }
 {
-    let x = fed(false, b.y, b.mask, d, 16);
-    Before {
+    let x = feedback(false, b.y, b.mask, d, 16);
+    StateY {
         y: keyed::block(e, x),
         mask: double_of(b.mask),
     }
 }
 
-// The last one, which has n bytes, with the mask doubled k times.
-pub fn data_last(b: Before, k: u64, d: Block, n: usize) -> After
+// State X after the last block of associated data, of which n bytes count, with the mask doubled k times.
+pub fn data_last(b: StateY, k: u64, d: Block, n: usize) -> StateX
     ensures { λ r. ⌜ r ≡ dataEnded b k d n ⌝ }
 {
     let mask = doubled(k, b.mask);
-    After {
-        x: fed(false, b.y, mask, d, n),
+    StateX {
+        x: feedback(false, b.y, mask, d, n),
         mask: mask,
     }
 }
 
-// A block of text, which has n bytes, with the mask doubled k times.
-pub fn text_block(opening: bool, e: Keyed, t: After, k: u64, d: Block, n: usize) -> Turn
+// State X after a block of text, of which n bytes count, with the mask doubled k times, and what comes out.
+pub fn text_block(opening: bool, e: Keyed, t: StateX, k: u64, d: Block, n: usize) -> Fed
     ensures { λ r. ⌜ r ≡ textFed opening e t k d n ⌝ }
 {
     let mask = doubled(k, t.mask);
     let y = keyed::block(e, t.x);
-    Turn {
-        after: After {
-            x: fed(opening, y, mask, d, n),
+    Fed {
+        state: StateX {
+            x: feedback(opening, y, mask, d, n),
             mask: mask,
         },
         out: words::xor(d, y),
     }
 }
 
-pub fn tag_of(e: Keyed, t: After) -> Block
+// The tag, from the last state X.
+pub fn tag_of(e: Keyed, t: StateX) -> Block
     ensures { λ r. ⌜ r ≡ tagged e t ⌝ }
 {
     let x = t.x;
@@ -108,7 +109,7 @@ pub fn tag_of(e: Keyed, t: After) -> Block
 }
 
 // Feedback of d, of which n bytes count.
-fn fed(opening: bool, y: Block, mask: u64, d: Block, n: usize) -> Block
+fn feedback(opening: bool, y: Block, mask: u64, d: Block, n: usize) -> Block
     ensures { λ r. ⌜ r ≡ halves (feed opening (value y) mask (low n (value d))) ⌝ }
 {
     let o = words::xor(d, y);

@@ -26,7 +26,7 @@ module _ (S : List ℕ → List ℕ → List ℕ → List ℕ) (H : List ℕ →
       (parts b (plus (left b) _) (right b) h (length-plus (left b) _) refl)
 
   -- a step undoes itself
-  stream-twice : (j : ℕ) (b : List ℕ) → 32 ≤ length b → streamStep S H key iv j (streamStep S H key iv j b) ≡ b
+  stream-twice : (j : ℕ) (b : List ℕ) → 32 ≤ length b → streamStep S key iv j (streamStep S key iv j b) ≡ b
   unfolding streamStep
   stream-twice j b h =
       let l = left b in
@@ -34,7 +34,7 @@ module _ (S : List ℕ → List ℕ → List ℕ → List ℕ) (H : List ℕ →
       let el : length l ≡ 32 = length-take-le 32 b h in
       rw (take-at l r 32 el, drop-at l r 32 el, undoes) (take-append-drop 32 b)
 
-  digest-twice : (j : ℕ) (b : List ℕ) → 32 ≤ length b → digestStep S H key iv j (digestStep S H key iv j b) ≡ b
+  digest-twice : (j : ℕ) (b : List ℕ) → 32 ≤ length b → digestStep H key iv j (digestStep H key iv j b) ≡ b
   unfolding digestStep
   digest-twice j b h =
       let r = right b in
@@ -47,7 +47,7 @@ module _ (S : List ℕ → List ℕ → List ℕ → List ℕ) (H : List ℕ →
   unfolding step
   step-twice j b h = by (eqb (j % 2) 1)
     where
-      by : (t : Bool) → cond t (streamStep S H key iv j (cond t (streamStep S H key iv j b) (digestStep S H key iv j b))) (digestStep S H key iv j (cond t (streamStep S H key iv j b) (digestStep S H key iv j b))) ≡ b
+      by : (t : Bool) → cond t (streamStep S key iv j (cond t (streamStep S key iv j b) (digestStep H key iv j b))) (digestStep H key iv j (cond t (streamStep S key iv j b) (digestStep H key iv j b))) ≡ b
       by true = stream-twice j b h
       by false = digest-twice j b h
 

@@ -1,4 +1,4 @@
 pub mod Inverse
 pub mod Steps
 pub mod Undone
-pub mod Single
+pub mod Unique

@@ -20,6 +20,7 @@ use Rattle.blake.specs.Blake.{digest}
 use Rattle.blake.specs.Entry.{digesting}
 use Rattle.blake.proofs.Hashing.{digesting-done}
 use Rattle.lioness.specs.Lioness.{piece, left, right, streamStep, digestStep, step, steps}
+use Rattle.lioness.specs.Steps.{Allowed}
 use Rattle.lioness.specs.Entry.{chacha, blake, rows}
 
 -- ---- the parts of key and iv
@@ -64,7 +65,7 @@ module _ (j : ℕ) (key iv : List ℕ) (low : 1 ≤ j) (high : j ≤ 4) (hk : le
 
     pub stream-step-is : (k x : List ℕ) (at end r : ℕ) → at ≡ 12 * (j - 1) → end ≡ at + 12 → k ≡ plus (left block) (piece 32 j key)
         → answered r x ≡ streaming k (take (end - at) (drop at iv)) 0 (take (length block - 32) (right block))
-        → putMid 32 (length block - 32) block x ≡ streamStep chacha blake key iv j block
+        → putMid 32 (length block - 32) block x ≡ streamStep chacha key iv j block
     unfolding streamStep piece
     stream-step-is k x at end r ea ee ek es =
         let n = part iv (12 * (j - 1)) 12 in
@@ -72,19 +73,19 @@ module _ (j : ℕ) (key iv : List ℕ) (low : 1 ≤ j) (high : j ≤ 4) (hk : le
         let lk : length k ≡ 32 = ap length ek ∙ length-plus (left block) (part key (32 * (j - 1)) 32) ∙ length-take-le 32 block (omega arith) in
         let hb : 0 + (length (right block) + 63) / 64 ≤ 2 ^ 32 = omega (arith, short) in
         let es′ : answered r x ≡ streaming k n 0 (right block) = es ∙ rw (en, lent) in
-        let ex : x ≡ chacha k n (right block) = ap (λ (y : Answer (List ℕ)). y .left) (es′ ∙ streaming-done k n (right block) 0 lk iv-piece short hb) in
+        let ex : x ≡ chacha k n (right block) = ap (λ (y : Answer (List ℕ)). y .outcome) (es′ ∙ streaming-done k n (right block) 0 lk iv-piece short hb) in
         rw (drop-of-length-le (right block) {i = length block - 32} (simp length-drop (omega arith)), append-nil, ex, ek)
 
     pub digest-step-is : (k room d x : List ℕ) (r : ℕ) → k ≡ piece 32 j key ++ piece 12 j iv → length room ≡ 64
         → answered r d ≡ digesting k (take (length block - 32) (right block)) room → x ≡ plusAt 0 (left block) (part d 0 32)
-        → x ++ right block ≡ digestStep chacha blake key iv j block
+        → x ++ right block ≡ digestStep blake key iv j block
     unfolding digestStep
     digest-step-is k room d x r ek er es ex =
         let R = right block in
         let lk : length k ≤ 64 = omega (arith, ap length ek ∙ hash-key) in
         let none : length room ≡ 0 → ⊥ = λ e. omega arith in
         let es′ : answered r d ≡ digesting k R room = es ∙ rw lent in
-        let ed : d ≡ blake k R = ap (λ (y : Answer (List ℕ)). y .left) (es′ ∙ digesting-done k R room lk short none (omega arith)) ∙ ap (λ (n : ℕ). digest k R n) er in
+        let ed : d ≡ blake k R = ap (λ (y : Answer (List ℕ)). y .outcome) (es′ ∙ digesting-done k R room lk short none (omega arith)) ∙ ap (λ (n : ℕ). digest k R n) er in
         ap (λ (l : List ℕ). l ++ R)
         (ex ∙ plusAt-first (left block) (take 32 d) ∙ ap (λ (l : List ℕ). plus (left block) (take 32 l)) ed
         ∙ ap (λ (l : List ℕ). plus (left block) (take 32 (blake l R))) ek)
@@ -98,12 +99,5 @@ steps-are key iv x₀ x₁ x₂ x₃ x₄ a b c d e₁ e₂ e₃ e₄ = rw (e₄
 
 -- ---- what is not refused
 
-pub record Allowed (key iv block : ℕ) : Type 0 where
-  pub key-128 : key ≡ 128
-  pub iv-48 : iv ≡ 48
-  pub block-least : 33 ≤ block
-  pub block-most : block ≤ 1048608
-
-pub allowed : (key iv block : ℕ) → Clear (rows key iv block) → Allowed key iv block
-allowed key iv block (k, (i, (l, (m, none)))) =
-    record { key-128 = eqb-true _ _ (not-false _ k); iv-48 = eqb-true _ _ (not-false _ i); block-least = ltb-false _ _ l; block-most = ltb-false _ _ m }
+pub allowed : (key iv block : List ℕ) → Clear (rows (length key) (length iv) (length block)) → Allowed key iv block
+allowed key iv block (k, (i, (l, (m, none)))) = (eqb-true _ _ (not-false _ k), eqb-true _ _ (not-false _ i), ltb-false _ _ l, ltb-false _ _ m)

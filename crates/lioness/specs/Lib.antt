@@ -1,2 +1,3 @@
 pub mod Lioness
 pub mod Entry
+pub mod Steps

@@ -6,17 +6,18 @@ ghost use lib.ListN.{length};
 ghost use Rattle.words.specs.Bytes.{plus};
 ghost use Rattle.answers.specs.Answers.{numberOf, answered};
 ghost use Rattle.lioness.specs.Lioness.{piece, left, streamStep, digestStep, step, steps};
+ghost use Rattle.lioness.specs.Steps.{Step, Allowed};
 ghost use Rattle.lioness.specs.Entry.{chacha, blake, rows, ordered, Enciphering, Deciphering};
 use answers::row;
 
-// Enciphers block in place. Answers 0, or the refusal.
+// Enciphers block in place, by the steps 1, 2, 3, 4. Answers 0, or the refusal.
 pub fn encipher(key: &[u8], iv: &[u8], block: &mut [u8]) -> u32
     ensures { λ r. ⌜ Enciphering r (now (key .entry)) (now (iv .entry)) (now (block .entry)) (now (block .exit)) ⌝ }
 {
     in_order(1, 2, 3, 4, key, iv, block)
 }
 
-// Deciphers block in place. Answers 0, or the refusal.
+// Deciphers block in place, by the steps 4, 3, 2, 1. Answers 0, or the refusal.
 pub fn decipher(key: &[u8], iv: &[u8], block: &mut [u8]) -> u32
     ensures { λ r. ⌜ Deciphering r (now (key .entry)) (now (iv .entry)) (now (block .entry)) (now (block .exit)) ⌝ }
 {
@@ -25,7 +26,7 @@ pub fn decipher(key: &[u8], iv: &[u8], block: &mut [u8]) -> u32
 
 // Both entry points: the four steps in an order.
 fn in_order(a: usize, b: usize, c: usize, d: usize, key: &[u8], iv: &[u8], block: &mut [u8]) -> u32
-    requires { ⌜ (1 ≤ a) × (a ≤ 4) × (1 ≤ b) × (b ≤ 4) × (1 ≤ c) × (c ≤ 4) × (1 ≤ d) × (d ≤ 4) ⌝ }
+    requires { ⌜ Step a × Step b × Step c × Step d ⌝ }
     ensures { λ r. ⌜ answered r (now (block .exit)) ≡ ordered a b c d (now (key .entry)) (now (iv .entry)) (now (block .entry)) ⌝ }
 {
     let refused = refusal(key.len(), iv.len(), block.len());
@@ -39,8 +40,7 @@ fn in_order(a: usize, b: usize, c: usize, d: usize, key: &[u8], iv: &[u8], block
 // The steps, on a key and an iv that are cut to the lengths they have: so the compiler sees them, and makes the steps'
 // sums for these lengths and not for any.
 fn four_steps(a: usize, b: usize, c: usize, d: usize, key: &[u8], iv: &[u8], block: &mut [u8])
-    requires { ⌜ (1 ≤ a) × (a ≤ 4) × (1 ≤ b) × (b ≤ 4) × (1 ≤ c) × (c ≤ 4) × (1 ≤ d) × (d ≤ 4)
-        × (length (now key) ≡ 128) × (length (now iv) ≡ 48) × (33 ≤ length (now block)) × (length (now block) ≤ 1048608) ⌝ }
+    requires { ⌜ Step a × Step b × Step c × Step d × Allowed (now key) (now iv) (now block) ⌝ }
     ensures { λ _. ⌜ now (block .exit) ≡ steps chacha blake (now (key .entry)) (now (iv .entry)) a b c d (now (block .entry)) ⌝ }
 {
     step_of(a, key, iv, block);
@@ -60,7 +60,7 @@ fn refusal(key: usize, iv: usize, block: usize) -> u32
 
 // Step j.
 fn step_of(j: usize, key: &[u8], iv: &[u8], block: &mut [u8])
-    requires { ⌜ (1 ≤ j) × (j ≤ 4) × (length (now key) ≡ 128) × (length (now iv) ≡ 48) × (33 ≤ length (now block)) × (length (now block) ≤ 1048608) ⌝ }
+    requires { ⌜ Step j × Allowed (now key) (now iv) (now block) ⌝ }
     ensures { λ _. ⌜ now (block .exit) ≡ step chacha blake (now (key .entry)) (now (iv .entry)) j (now (block .entry)) ⌝ }
 {
     if j % 2 == 1 {
@@ -72,8 +72,8 @@ fn step_of(j: usize, key: &[u8], iv: &[u8], block: &mut [u8])
 
 // Enciphers R there in the caller's buffer.
 fn stream_step(j: usize, key: &[u8], iv: &[u8], block: &mut [u8])
-    requires { ⌜ (1 ≤ j) × (j ≤ 4) × (length (now key) ≡ 128) × (length (now iv) ≡ 48) × (33 ≤ length (now block)) × (length (now block) ≤ 1048608) ⌝ }
-    ensures { λ _. ⌜ now (block .exit) ≡ streamStep chacha blake (now (key .entry)) (now (iv .entry)) j (now (block .entry)) ⌝ }
+    requires { ⌜ Step j × Allowed (now key) (now iv) (now block) ⌝ }
+    ensures { λ _. ⌜ now (block .exit) ≡ streamStep chacha (now (key .entry)) (now (iv .entry)) j (now (block .entry)) ⌝ }
 {
     let k = stream_key(j, key, &block[..32]);
     let at = 12 * (j - 1);
@@ -83,8 +83,8 @@ fn stream_step(j: usize, key: &[u8], iv: &[u8], block: &mut [u8])
 
 // Adds the digest of R to L.
 fn digest_step(j: usize, key: &[u8], iv: &[u8], block: &mut [u8])
-    requires { ⌜ (1 ≤ j) × (j ≤ 4) × (length (now key) ≡ 128) × (length (now iv) ≡ 48) × (33 ≤ length (now block)) × (length (now block) ≤ 1048608) ⌝ }
-    ensures { λ _. ⌜ now (block .exit) ≡ digestStep chacha blake (now (key .entry)) (now (iv .entry)) j (now (block .entry)) ⌝ }
+    requires { ⌜ Step j × Allowed (now key) (now iv) (now block) ⌝ }
+    ensures { λ _. ⌜ now (block .exit) ≡ digestStep blake (now (key .entry)) (now (iv .entry)) j (now (block .entry)) ⌝ }
 {
     let k = digest_key(j, key, iv);
     let mut d = [0u8; 64];
@@ -94,7 +94,7 @@ fn digest_step(j: usize, key: &[u8], iv: &[u8], block: &mut [u8])
 
 // L plus the j-th part of the key.
 fn stream_key(j: usize, key: &[u8], block: &[u8]) -> [u8; 32]
-    requires { ⌜ (1 ≤ j) × (j ≤ 4) × (32 ≤ length (now block)) ⌝ }
+    requires { ⌜ Step j × (32 ≤ length (now block)) ⌝ }
     ensures { λ r. ⌜ r ≡ plus (left (now (block .entry))) (piece 32 j (now (key .entry))) ⌝ }
 {
     let mut k = [0u8; 32];
@@ -105,7 +105,7 @@ fn stream_key(j: usize, key: &[u8], block: &[u8]) -> [u8; 32]
 
 // The j-th part of the key followed by the j-th of the iv.
 fn digest_key(j: usize, key: &[u8], iv: &[u8]) -> [u8; 44]
-    requires { ⌜ (1 ≤ j) × (j ≤ 4) × (length (now key) ≡ 128) × (length (now iv) ≡ 48) ⌝ }
+    requires { ⌜ Step j × (length (now key) ≡ 128) × (length (now iv) ≡ 48) ⌝ }
     ensures { λ r. ⌜ r ≡ piece 32 j (now (key .entry)) ++ piece 12 j (now (iv .entry)) ⌝ }
 {
     let mut k = [0u8; 44];

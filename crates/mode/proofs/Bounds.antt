@@ -10,12 +10,12 @@ use lib.Dec.{eqb, lit<}
 use lib.ListN.{length}
 use lib.Pow.{pow-pos, shr-lt, high, low, split}
 use Rattle.words.specs.Bytes.{Bytes, number, bytes, pad}
-use Rattle.words.specs.Turns.{turns}
+use Rattle.words.specs.Iterate.{iterate}
 use Rattle.words.proofs.Bytes.{bytes-bytes, bytes-filled, length-filled, number-lt}
 use Rattle.words.proofs.Plus.{bytes-plus}
 use Rattle.words.proofs.Tests.{cond-has, cond-lt}
 use Rattle.mode.specs.Demands.{Inverted}
-use Rattle.mode.specs.Hyena.{Fed, State, upper, lower, joined, double, doubles, before, last, full, empty, walk, output, feedback, feed, startBlock, dataFirst, dataEach, dataAt, dataLast, afterData, textBlock, textAt, afterText, swapped, begun, ended, tag}
+use Rattle.mode.specs.Hyena.{StateY, StateX, upper, lower, joined, double, doubles, before, last, full, empty, walk, output, feedback, feed, startBlock, dataFirst, dataEach, dataAt, dataLast, afterData, textBlock, textAt, afterText, swapped, begun, ended, tag}
 use Rattle.mode.proofs.Cuts.{last-bytes, walk-keeps}
 
 -- ---- halves
@@ -46,7 +46,7 @@ unfolding double
 double-lt x = xor-lt 64 (x * 2 % 2 ^ 64) (cond (eqb (x / 2 ^ 63) 1) 0x1B 0) (lower-lt (x * 2)) (cond-lt (eqb (x / 2 ^ 63) 1) (lit< tt) (lit< tt))
 
 pub doubles-lt : (k x : ℕ) → x < 2 ^ 64 → doubles k x < 2 ^ 64
-unfolding turns
+unfolding iterate
 doubles-lt zero x h = h
 doubles-lt (suc k) x h = double-lt (doubles k x)
 
@@ -72,10 +72,10 @@ feed-lt true y Δ d hy hΔ h = feedback-lt y Δ (output d y) d hy hΔ (output-by
 
 -- ---- the states
 
-abbrev FedFits : Fed → Type 0
+abbrev FedFits : StateY → Type 0
 FedFits f = (f .Y < 2 ^ 128) × (f .Δ < 2 ^ 64)
 
-abbrev pub Fits : State → Type 0
+abbrev pub Fits : StateX → Type 0
 Fits t = (t .X < 2 ^ 128) × (t .Δ < 2 ^ 64)
 
 start-lt : (nonce : List ℕ) (a d : ℕ) → Bytes nonce → length nonce ≡ 12 → startBlock nonce a d < 2 ^ 128
@@ -87,16 +87,16 @@ start-lt nonce a d hn ln = digits-lt (subst (λ (n : ℕ). number nonce < 256 ^ 
     marks-lt true false = lit< tt
     marks-lt false q = lit< tt
 
-dataLast-fits : (k : ℕ) (f : Fed) (d : List ℕ) → FedFits f → Bytes d → Fits (dataLast k f d)
+dataLast-fits : (k : ℕ) (f : StateY) (d : List ℕ) → FedFits f → Bytes d → Fits (dataLast k f d)
 unfolding dataLast
 dataLast-fits k f d p h = (feed-lt false (f .Y) (doubles k (f .Δ)) d (p .0) (doubles-lt k (f .Δ) (p .1)) h, doubles-lt k (f .Δ) (p .1))
 
 module _ {E D : ℕ → ℕ} (inv : Inverted E D) where
-  dataEach-fits : (f : Fed) (d : List ℕ) → FedFits f → Bytes d → FedFits (dataEach E f d)
+  dataEach-fits : (f : StateY) (d : List ℕ) → FedFits f → Bytes d → FedFits (dataEach E f d)
   unfolding dataEach
   dataEach-fits f d p h = (inv .block _ (feed-lt false (f .Y) (f .Δ) d (p .0) (p .1) h), double-lt (f .Δ))
 
-  afterData-fits : (f : Fed) (a : List ℕ) → FedFits f → Bytes a → Fits (afterData E f a)
+  afterData-fits : (f : StateY) (a : List ℕ) → FedFits f → Bytes a → Fits (afterData E f a)
   unfolding afterData walk
   afterData-fits f a p h =
       cond-has Fits (empty a)
@@ -111,14 +111,14 @@ module _ {E D : ℕ → ℕ} (inv : Inverted E D) where
       let y = E (startBlock nonce (length a) n) in
       afterData-fits (dataFirst y) a (inv .block _ (start-lt nonce (length a) n hn ln), double-lt (lower y)) ha
 
-  pub textBlock-fits : (opening : Bool) (k : ℕ) (t : State) (d : List ℕ) → Fits t → Bytes d → Fits (textBlock E opening k t d)
+  pub textBlock-fits : (opening : Bool) (k : ℕ) (t : StateX) (d : List ℕ) → Fits t → Bytes d → Fits (textBlock E opening k t d)
   unfolding textBlock
   textBlock-fits opening k t d p h = (feed-lt opening (E (t .X)) (doubles k (t .Δ)) d (inv .block (t .X) (p .0)) (doubles-lt k (t .Δ) (p .1)) h, doubles-lt k (t .Δ) (p .1))
 
-  pub textAt-fits : (opening : Bool) (t : State) (s : List ℕ) (i : ℕ) → Fits t → Bytes s → Fits (textAt E opening s t i)
+  pub textAt-fits : (opening : Bool) (t : StateX) (s : List ℕ) (i : ℕ) → Fits t → Bytes s → Fits (textAt E opening s t i)
   textAt-fits opening t s i p h = walk-keeps (textBlock E opening 1) Fits (textBlock-fits opening 1) t s i p h
 
-  afterText-fits : (opening : Bool) (t : State) (s : List ℕ) → Fits t → Bytes s → Fits (afterText E opening t s)
+  afterText-fits : (opening : Bool) (t : StateX) (s : List ℕ) → Fits t → Bytes s → Fits (afterText E opening t s)
   unfolding afterText walk
   afterText-fits opening t s p h =
       cond-has Fits (empty s) p

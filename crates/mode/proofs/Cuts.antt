@@ -10,7 +10,7 @@ use Rattle.words.specs.Block.{part}
 use Rattle.words.specs.Bytes.{Bytes}
 use Rattle.words.proofs.Bytes.{bytes-take, bytes-drop}
 use Rattle.words.proofs.Lists.{length-part}
-use Rattle.words.proofs.Turns.{turns-same, turns-keep}
+use Rattle.words.proofs.Iterate.{iterate-same, iterate-keep}
 use Rattle.mode.specs.Hyena.{before, blockAt, last, walked, walk}
 
 pub block-length : (s : List ℕ) (i : ℕ) → i < before s → length (blockAt s i) ≡ 16
@@ -66,9 +66,9 @@ module _ {A B : Type 0} (each : A → List ℕ → A) (final : A → List ℕ �
   walk-alike t c d n h =
       ap (λ (u : A). final u (last d))
       (ap (walked each d t) (sym n)
-      ∙ sym (turns-same (λ i u. each u (blockAt c i)) (λ i u. each u (blockAt d i)) (before c) t (λ i u l. ap (each u) (h i l))))
+      ∙ sym (iterate-same (λ i u. each u (blockAt c i)) (λ i u. each u (blockAt d i)) (before c) t (λ i u l. ap (each u) (h i l))))
 
 -- what each step keeps on blocks of bytes, n of them keep
 pub walk-keeps : {A : Type 0} (each : A → List ℕ → A) (P : A → Type 0) → ((t : A) (d : List ℕ) → P t → Bytes d → P (each t d))
     → (t : A) (s : List ℕ) (n : ℕ) → P t → Bytes s → P (walked each s t n)
-walk-keeps each P keep t s n h hs = turns-keep P (λ i u. each u (blockAt s i)) (λ i u p. keep u (blockAt s i) p (block-bytes s i hs)) n t h
+walk-keeps each P keep t s n h hs = iterate-keep P (λ i u. each u (blockAt s i)) (λ i u p. keep u (blockAt s i) p (block-bytes s i hs)) n t h

@@ -8,7 +8,7 @@ use Prim.Native.Nat.{ℕ, zero, suc, _+_, _*_, _%_, _^_}
 use native.Mathlib.Omega.{arith}
 use lib.Bits.{bitXor}
 use Rattle.words.specs.Bytes.{number, bytes, filled, plus}
-use Rattle.words.specs.Turns.{turns}
+use Rattle.words.specs.Iterate.{iterate}
 use Rattle.mode.specs.Demands.{Alike}
 use Rattle.mode.specs.Hyena.{double, walk, output, feedback, feed, startBlock, dataFirst, dataEach, dataLast, afterData, textBlock, afterText, swapped, ended, outputs, tag}
 
@@ -62,7 +62,7 @@ vectors : _≡_ {A = List (List ℕ)}
     ∷ (number (text 32) ∷ 0xB0A018DEF388FB864A900722CC7EE941 ∷ [])
     ∷ []
     )
-unfolding both text nonce count toy outputs tag ended startBlock dataFirst dataEach dataLast afterData textBlock afterText walk feed feedback output swapped double turns plus number bytes filled
+unfolding both text nonce count toy outputs tag ended startBlock dataFirst dataEach dataLast afterData textBlock afterText walk feed feedback output swapped double iterate plus number bytes filled
 vectors = refl
 
 -- demand 3 speaks of something

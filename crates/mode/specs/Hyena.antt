@@ -9,7 +9,7 @@ use lib.Dec.{eqb}
 use lib.ListN.{length, drop}
 use Rattle.words.specs.Block.{part}
 use Rattle.words.specs.Bytes.{number, bytes, pad, plus}
-use Rattle.words.specs.Turns.{turns}
+use Rattle.words.specs.Iterate.{iterate}
 
 -- "For a block S, SL is its upper 64 bits and SR its lower 64."
 abbrev pub upper : ℕ → ℕ
@@ -32,7 +32,7 @@ double x = bitXor (x * 2 % 2 ^ 64) (cond (eqb (x / 2 ^ 63) 1) 0x1B 0)
 
 -- k times
 abbrev pub doubles : ℕ → ℕ → ℕ
-doubles k x = turns (λ i. double) k x
+doubles k x = iterate (λ i. double) k x
 
 -- ---- "Text and associated data are cut into blocks of 16 bytes from the front; the last has 1 to 16 bytes."
 
@@ -55,7 +55,7 @@ full d = eqb (length d) 16
 
 -- "for each block but the last" one thing: the state before block i
 abbrev pub walked : {A : Type 0} → (A → List ℕ → A) → List ℕ → A → ℕ → A
-walked each s t i = turns (λ j u. each u (blockAt s j)) i t
+walked each s t i = iterate (λ j u. each u (blockAt s j)) i t
 
 -- "For the last" another
 unfoldable pub walk : {A B : Type 0} → (A → List ℕ → A) → (A → List ℕ → B) → A → List ℕ → B
@@ -87,64 +87,64 @@ startBlock nonce a d =
 
 -- ---- the states
 
--- before a block of associated data
-pub record Fed : Type 0 where
+-- state Y, into which a block is fed
+pub record StateY : Type 0 where
   pub Y : ℕ
   pub Δ : ℕ
 
--- after a block: the state, the mask that it was fed with, and the output so far
-pub record State : Type 0 where
+-- "The new state X", the mask that the block was fed with, and the output so far
+pub record StateX : Type 0 where
   pub X : ℕ
   pub Δ : ℕ
   pub out : List ℕ
 
 -- ---- "Associated data: Δ is YR doubled once."
 
-unfoldable pub dataFirst : ℕ → Fed
+unfoldable pub dataFirst : ℕ → StateY
 dataFirst y = record { Y = y; Δ = double (lower y) }
 
 -- double k times, then feed; "Each is fed as in sealing, in opening too. Outputs here are dropped."
-unfoldable pub dataLast : ℕ → Fed → List ℕ → State
+unfoldable pub dataLast : ℕ → StateY → List ℕ → StateX
 dataLast k f d = record { X = feed false (f .Y) (doubles k (f .Δ)) d; Δ = doubles k (f .Δ); out = [] }
 
 module _ (E : ℕ → ℕ) where
   -- "feed it, take Y = E(X), double Δ"
-  unfoldable pub dataEach : Fed → List ℕ → Fed
+  unfoldable pub dataEach : StateY → List ℕ → StateY
   dataEach f d = record { Y = E (feed false (f .Y) (f .Δ) d); Δ = double (f .Δ) }
 
   -- the state before block i
-  abbrev pub dataAt : List ℕ → Fed → ℕ → Fed
+  abbrev pub dataAt : List ℕ → StateY → ℕ → StateY
   dataAt a f i = walked dataEach a f i
 
   -- "If empty, double twice more and feed the block with value 1. Otherwise for each block but the last .. For the last: double
   -- once if full, twice if partial, then feed."
-  unfoldable pub afterData : Fed → List ℕ → State
+  unfoldable pub afterData : StateY → List ℕ → StateX
   afterData f a = cond (empty a) (dataLast 2 f (bytes 16 1)) (walk dataEach (λ g d. dataLast (cond (full d) 1 2) g d) f a)
 
   -- ---- "Text, if not empty"
 
   -- double k times, "Y = E(X), feed"
-  unfoldable pub textBlock : Bool → ℕ → State → List ℕ → State
+  unfoldable pub textBlock : Bool → ℕ → StateX → List ℕ → StateX
   textBlock opening k t d =
       record { X = feed opening (E (t .X)) (doubles k (t .Δ)) d; Δ = doubles k (t .Δ); out = t .out ++ output d (E (t .X)) }
 
   -- the state before block i
-  abbrev pub textAt : Bool → List ℕ → State → ℕ → State
+  abbrev pub textAt : Bool → List ℕ → StateX → ℕ → StateX
   textAt opening s t i = walked (textBlock opening 1) s t i
 
   -- "for each block but the last: double Δ, Y = E(X), feed. For the last: double twice if full, three times if partial, Y = E(X),
   -- feed."
-  unfoldable pub afterText : Bool → State → List ℕ → State
+  unfoldable pub afterText : Bool → StateX → List ℕ → StateX
   afterText opening t s =
       cond (empty s) t (walk (textBlock opening 1) (λ u d. textBlock opening (cond (full d) 2 3) u d) t s)
 
   -- ---- all of it
 
   -- start and associated data, for a text of n bytes
-  abbrev pub begun : List ℕ → List ℕ → ℕ → State
+  abbrev pub begun : List ℕ → List ℕ → ℕ → StateX
   begun nonce a n = afterData (dataFirst (E (startBlock nonce (length a) n))) a
 
-  unfoldable pub ended : Bool → List ℕ → List ℕ → List ℕ → State
+  unfoldable pub ended : Bool → List ℕ → List ℕ → List ℕ → StateX
   ended opening nonce a d = afterText opening (begun nonce a (length d)) d
 
   -- the ciphertext, or the text

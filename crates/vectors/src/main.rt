@@ -90,17 +90,17 @@ fn read(good: bool, s: &[u8], room: &mut [u8]) -> Field {
 }
 
 // The same into room, the last byte first.
-fn read_turned(good: bool, s: &[u8], room: &mut [u8]) -> Field {
+fn read_reversed(good: bool, s: &[u8], room: &mut [u8]) -> Field {
     let mut bytes = [0u8; 1152];
     let f = read(good, s, &mut bytes);
-    turn(first(&bytes, f.len), room);
+    reverse(first(&bytes, f.len), room);
     f
 }
 
 // Reads a number of n bytes, at most four.
 fn read_number(good: bool, s: &[u8], n: usize) -> Number {
     let mut bytes = [0u8; 4];
-    let f = read_turned(good, s, &mut bytes);
+    let f = read_reversed(good, s, &mut bytes);
     let x = words::load(&bytes, 0, 4);
     Number {
         good: f.good && f.len == n,
@@ -111,8 +111,8 @@ fn read_number(good: bool, s: &[u8], n: usize) -> Number {
 fn gift_line(s: &[u8]) -> bool {
     let mut key = [0u8; 1152];
     let mut block = [0u8; 1152];
-    let k = read_turned(true, word(s), &mut key);
-    let b = read_turned(k.good, behind(s), &mut block);
+    let k = read_reversed(true, word(s), &mut key);
+    let b = read_reversed(k.good, behind(s), &mut block);
     if b.good {
         gift_block(first(&key, k.len), first_mut(&mut block, b.len));
     }
@@ -121,7 +121,7 @@ fn gift_line(s: &[u8]) -> bool {
 
 fn gift_block(key: &[u8], x: &mut [u8]) {
     let number = gift::encipher(key, x);
-    put_turned(number, x);
+    put_reversed(number, x);
     gift_back(key, x);
     gift_back(key, x);
 }
@@ -129,7 +129,7 @@ fn gift_block(key: &[u8], x: &mut [u8]) {
 fn gift_back(key: &[u8], x: &mut [u8]) {
     let number = gift::decipher(key, x);
     space();
-    put_turned(number, x);
+    put_reversed(number, x);
 }
 
 fn lioness_line(s: &[u8]) -> bool {
@@ -218,9 +218,9 @@ fn put(number: u32, s: &[u8]) {
 }
 
 // The same, the last byte first.
-fn put_turned(number: u32, s: &[u8]) {
+fn put_reversed(number: u32, s: &[u8]) {
     let mut room = [0u8; 1152];
-    turn(s, &mut room);
+    reverse(s, &mut room);
     put(number, first(&room, s.len()));
 }
 
@@ -234,7 +234,7 @@ fn first_mut(s: &mut [u8], n: usize) -> &mut [u8] {
 }
 
 // Writes the bytes of s to room, the last one first, as far as there is room.
-fn turn(s: &[u8], room: &mut [u8]) {
+fn reverse(s: &[u8], room: &mut [u8]) {
     let mut i = 0;
     while i < s.len() {
         if room.len() <= i {

@@ -10,7 +10,7 @@ ghost use Rattle.hyena.specs.Entry as hyena;
 ghost use Rattle.chacha.specs.Entry as chacha;
 ghost use Rattle.blake.specs.Entry as blake;
 ghost use Rattle.lioness.specs.Entry as lioness;
-ghost use Rattle.drawer.specs.Drawer as drawer;
+ghost use Rattle.drawer.specs.Drawer.{forNonce, forIv, started, Drawing};
 ghost use Rattle.books.specs.Entry as books;
 
 #[no_mangle]
@@ -31,28 +31,28 @@ pub extern "C" fn vespruldo_gift_decipher(key: &[u8], block: &mut [u8]) -> u32
 pub extern "C" fn vespruldo_seal(
     key: &[u8],
     nonce: &[u8],
-    ad: &[u8],
+    data: &[u8],
     text: &[u8],
     room: &mut [u8],
     tag: &mut [u8],
 ) -> u32
-    ensures { λ r. ⌜ hyena.Sealing hyena.gift r (hyena.inputs (now (key .entry)) (now (nonce .entry)) (now (ad .entry)) (now (text .entry))) (now (room .entry)) (now (tag .entry)) (now (room .exit)) (now (tag .exit)) ⌝ }
+    ensures { λ r. ⌜ hyena.Sealing hyena.gift r (hyena.inputs (now (key .entry)) (now (nonce .entry)) (now («data» .entry)) (now (text .entry))) (now (room .entry)) (now (tag .entry)) (now (room .exit)) (now (tag .exit)) ⌝ }
 {
-    hyena::seal(key, nonce, ad, text, room, tag)
+    hyena::seal(key, nonce, data, text, room, tag)
 }
 
 #[no_mangle]
 pub extern "C" fn vespruldo_open(
     key: &[u8],
     nonce: &[u8],
-    ad: &[u8],
+    data: &[u8],
     ciphertext: &[u8],
     tag: &[u8],
     room: &mut [u8],
 ) -> u32
-    ensures { λ r. ⌜ hyena.Opening hyena.gift r (hyena.inputs (now (key .entry)) (now (nonce .entry)) (now (ad .entry)) (now (ciphertext .entry))) (now (tag .entry)) (now (room .entry)) (now (room .exit)) ⌝ }
+    ensures { λ r. ⌜ hyena.Opening hyena.gift r (hyena.inputs (now (key .entry)) (now (nonce .entry)) (now («data» .entry)) (now (ciphertext .entry))) (now (tag .entry)) (now (room .entry)) (now (room .exit)) ⌝ }
 {
-    hyena::open(key, nonce, ad, ciphertext, tag, room)
+    hyena::open(key, nonce, data, ciphertext, tag, room)
 }
 
 #[no_mangle]
@@ -89,10 +89,10 @@ pub extern "C" fn vespruldo_chacha20(key: &[u8], nonce: &[u8], start: u32, text:
 }
 
 #[no_mangle]
-pub extern "C" fn vespruldo_blake2b(key: &[u8], text: &[u8], room: &mut [u8]) -> u32
-    ensures { λ r. ⌜ blake.Digesting r (now (key .entry)) (now (text .entry)) (now (room .entry)) (now (room .exit)) ⌝ }
+pub extern "C" fn vespruldo_blake2b(key: &[u8], text: &[u8], digest: &mut [u8]) -> u32
+    ensures { λ r. ⌜ blake.Digesting r (now (key .entry)) (now (text .entry)) (now (digest .entry)) (now (digest .exit)) ⌝ }
 {
-    blake::digest(key, text, room)
+    blake::digest(key, text, digest)
 }
 
 #[no_mangle]
@@ -111,28 +111,28 @@ pub extern "C" fn vespruldo_lioness_decipher(key: &[u8], iv: &[u8], block: &mut 
 
 #[no_mangle]
 pub extern "C" fn vespruldo_drawer_start(reader: u32, count: u64) -> Drawer
-    ensures { λ r. ⌜ r ≡ drawer.started reader count ⌝ }
+    ensures { λ r. ⌜ r ≡ started reader count ⌝ }
 {
     drawer::start(reader, count)
 }
 
 #[no_mangle]
-pub extern "C" fn vespruldo_drawer_draw(d: Drawer) -> Drawn
-    ensures { λ r. ⌜ drawer.Drawing drawer.forNonce (r .number) d (r .bytes) (r .next) ⌝ }
+pub extern "C" fn vespruldo_drawer_draw(drawer: Drawer) -> Drawn
+    ensures { λ r. ⌜ Drawing forNonce (r .number) drawer (r .bytes) (r .next) ⌝ }
 {
-    drawer::draw(d)
+    drawer::draw(drawer)
 }
 
 #[no_mangle]
-pub extern "C" fn vespruldo_drawer_iv(d: Drawer) -> DrawnIv
-    ensures { λ r. ⌜ drawer.Drawing drawer.forIv (r .number) d (r .bytes) (r .next) ⌝ }
+pub extern "C" fn vespruldo_drawer_iv(drawer: Drawer) -> DrawnIv
+    ensures { λ r. ⌜ Drawing forIv (r .number) drawer (r .bytes) (r .next) ⌝ }
 {
-    drawer::iv(d)
+    drawer::iv(drawer)
 }
 
 #[no_mangle]
-pub extern "C" fn vespruldo_key_find(this: &[u8], last: &[u8], class: u16) -> Found
-    ensures { λ r. ⌜ books.Finding (r .number) (now (this .entry)) (now (last .entry)) class (r .book) (r .at) ⌝ }
+pub extern "C" fn vespruldo_key_find(this_term: &[u8], last_term: &[u8], class: u16) -> Found
+    ensures { λ r. ⌜ books.Finding (r .number) (now («this_term» .entry)) (now («last_term» .entry)) class (r .book) (r .offset) ⌝ }
 {
-    books::find(this, last, class)
+    books::find(this_term, last_term, class)
 }

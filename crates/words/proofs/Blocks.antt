@@ -47,10 +47,10 @@ pub xor-halves : (a b : Block) → a .lo < 2 ^ 64 → b .lo < 2 ^ 64
 unfolding value
 xor-halves a b ha hb = sym (xor-block 64 (a .hi) (b .hi) (a .lo) (b .lo) ha hb)
 
--- one turn of a loop that sums by exclusive or into a block
-pub sum-turn : (f : ℕ → ℕ) (i : ℕ) {acc next : Block} {v : ℕ} → acc ≡ halves (xsum f i) → next ≡ halves (bitXor (value acc) v) → v ≡ f i
+-- one step of a loop that sums by exclusive or into a block
+pub sum-next : (f : ℕ → ℕ) (i : ℕ) {acc next : Block} {v : ℕ} → acc ≡ halves (xsum f i) → next ≡ halves (bitXor (value acc) v) → v ≡ f i
     → next ≡ halves (xsum f (i + 1))
-sum-turn f i ea en ev = en ∙ ap halves (ap₂ bitXor (value-is ea) ev ∙ sym (xsum-next f i))
+sum-next f i ea en ev = en ∙ ap halves (ap₂ bitXor (value-is ea) ev ∙ sym (xsum-next f i))
 
 -- ---- the block of sixteen bytes
 

@@ -89,11 +89,11 @@ pub bytes-none : (x : ℕ) → bytes 0 x ≡ []
 unfolding bytes
 bytes-none x = refl
 
--- one turn of a loop that stores a number's bytes
-pub put-turn : (s l : List ℕ) (at i n x : ℕ) → i < n → sets s (at + i) (bytes (n - i) x) ≡ l
+-- one step of a loop that stores a number's bytes
+pub put-next : (s l : List ℕ) (at i n x : ℕ) → i < n → sets s (at + i) (bytes (n - i) x) ≡ l
     → sets (set s (at + i) (x % 256)) (at + (i + 1)) (bytes (n - (i + 1)) (x / 256)) ≡ l
 unfolding bytes
-put-turn s l at i n x h e =
+put-next s l at i n x h e =
     let e1 : n - i ≡ suc (n - (i + 1)) = omega arith in
     let e2 : at + (i + 1) ≡ suc (at + i) = omega arith in
     rw e2 (rw e1 at e)

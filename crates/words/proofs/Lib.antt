@@ -3,7 +3,7 @@ pub mod ExclusiveOr
 pub mod Sums
 pub mod Rotation
 pub mod Tests
-pub mod Turns
+pub mod Iterate
 pub mod Lists
 pub mod Bytes
 pub mod Plus
@@ -15,4 +15,4 @@ pub mod Fields
 pub mod WordLists
 pub mod Squares
 pub mod Search
-pub mod Single
+pub mod Unique

@@ -63,10 +63,10 @@ module _ {A : Type 0} where
     pub tab-at : (n k : ℕ) → k < n → getD (tab f 0 n) k d ≡ f k
     tab-at n k h = tab-from 0 n k h ∙ ap f (zero-add k)
 
-    -- one turn of a loop that fills a list from the front
-    pub fill-turn : (l : List A) (r : ℕ) (a : A) → r < length l → ((j : ℕ) → j < r → getD l j d ≡ f j) → a ≡ f r
+    -- one step of a loop that fills a list from the front
+    pub fill-next : (l : List A) (r : ℕ) (a : A) → r < length l → ((j : ℕ) → j < r → getD l j d ≡ f j) → a ≡ f r
         → (j : ℕ) → j < r + 1 → getD (set l r a) j d ≡ f j
-    fill-turn l r a h below e j m =
+    fill-next l r a h below e j m =
         ⊎-elim
         (λ q. ap (λ (x : ℕ). getD (set l r a) x d) q ∙ getD-set-same l r a d h ∙ e ∙ ap f (sym q))
         (λ q. getD-set-other l r j a d (ne-of-lt q) ∙ below j q)

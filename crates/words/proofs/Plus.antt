@@ -106,10 +106,10 @@ plusAt-set zero (b ∷ s) c t h = refl
 plusAt-set (suc at) (b ∷ s) c t h = ap (λ (r : List ℕ). b ∷ r) (plusAt-set at s c t (le-of-suc-le-suc h))
 
 module _ (t : List ℕ) (from n at i : ℕ) where
-  -- one turn of a loop that adds a part of t
-  pub plusAt-turn : (s l : List ℕ) → i < n → from + i < length t → at + i < length s → plusAt (at + i) s (drop i (part t from n)) ≡ l
+  -- one step of a loop that adds a part of t
+  pub plusAt-next : (s l : List ℕ) → i < n → from + i < length t → at + i < length s → plusAt (at + i) s (drop i (part t from n)) ≡ l
       → plusAt (at + (i + 1)) (set s (at + i) (bitXor (getD s (at + i) 0) (getD t (from + i) 0))) (drop (i + 1) (part t from n)) ≡ l
-  plusAt-turn s l hn ht hs e =
+  plusAt-next s l hn ht hs e =
       let p = part t from n in
       let lp : length p ≡ min n (length t - from) = simp (length-take, length-drop) in
       let ei : at + (i + 1) ≡ suc (at + i) = omega arith in

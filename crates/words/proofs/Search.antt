@@ -42,8 +42,8 @@ module _ (s t : List ℕ) (i : ℕ) (h : i < length s) (l : length s ≡ length 
   unfolding same
   next = let h′ : i < length t = omega arith in rw (drop-cons s i 0 h, drop-cons t i 0 h′)
 
-  pub same-turn : {u : Bool} → getD s i 0 ≡ getD t i 0 → same (drop i s) (drop i t) ≡ u → same (drop (i + 1) s) (drop (i + 1) t) ≡ u
-  same-turn e inv = rw add-one (sym (next ∙ rw (eq-eqb (getD s i 0) (getD t i 0) e)) ∙ inv)
+  pub same-next : {u : Bool} → getD s i 0 ≡ getD t i 0 → same (drop i s) (drop i t) ≡ u → same (drop (i + 1) s) (drop (i + 1) t) ≡ u
+  same-next e inv = rw add-one (sym (next ∙ rw (eq-eqb (getD s i 0) (getD t i 0) e)) ∙ inv)
 
   pub differ : {u : Bool} → (getD s i 0 ≡ getD t i 0 → ⊥) → same (drop i s) (drop i t) ≡ u → false ≡ u
   differ ne inv = sym (next ∙ rw (ne-eqb (getD s i 0) (getD t i 0) ne)) ∙ inv

@@ -77,11 +77,11 @@ unfolding unwords
 length-unwords w [] = sym (mul-zero w)
 length-unwords w (x ∷ xs) = rw (length-append, length-bytes, length-unwords w xs, mul-suc) (omega arith)
 
--- one turn of a loop that stores a list of words
-pub words-turn : (w i : ℕ) (s s′ l xs : List ℕ) → i < length xs → s′ ≡ sets s (w * i) (bytes w (getD xs i 0)) → sets s (w * i) (unwords w (drop i xs)) ≡ l
+-- one step of a loop that stores a list of words
+pub words-next : (w i : ℕ) (s s′ l xs : List ℕ) → i < length xs → s′ ≡ sets s (w * i) (bytes w (getD xs i 0)) → sets s (w * i) (unwords w (drop i xs)) ≡ l
     → sets s′ (w * (i + 1)) (unwords w (drop (i + 1) xs)) ≡ l
 unfolding unwords
-words-turn w i s s′ l xs h e′ e =
+words-next w i s s′ l xs h e′ e =
     let x = getD xs i 0 in
     let ep : w * (i + 1) ≡ w * i + length (bytes w x) = rw (length-bytes, add-one, mul-suc) in
     rw (ep, add-one, e′) (sets-append s (w * i) (bytes w x) (unwords w (drop (suc i) xs)) ∙ rw (drop-cons xs i 0 h) at e)

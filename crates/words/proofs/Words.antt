@@ -29,8 +29,8 @@ module _ (s : List ℕ) (at n t : ℕ) (fits : n ≤ length s - at) (short : n �
       sym (number-first (filled t 8 (part s at n)) j (omega (arith, length-filled t 8 (part s at n)))
       ∙ ap (λ (b : ℕ). number (rest s at n t (suc j)) * 256 + b) e)
 
-  pub rest-turn : (i : ℕ) → 0 < i → i ≤ n → number (rest s at n t i) * 256 + getD s (at + (i - 1)) 0 ≡ number (rest s at n t (i - 1))
-  rest-turn i p h =
+  pub rest-next : (i : ℕ) → 0 < i → i ≤ n → number (rest s at n t i) * 256 + getD s (at + (i - 1)) 0 ≡ number (rest s at n t (i - 1))
+  rest-next i p h =
       let e : i ≡ suc (i - 1) = omega arith in
       ap (λ (k : ℕ). number (rest s at n t k) * 256 + getD s (at + (i - 1)) 0) e ∙ rest-first (i - 1) (omega arith)
 

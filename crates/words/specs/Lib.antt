@@ -1,5 +1,5 @@
 -- The definitions that all contracts share.
-pub mod Turns
+pub mod Iterate
 pub mod Square
 pub mod Digits
 pub mod Bytes

@@ -26,7 +26,7 @@ pub fn wide(x: u8) -> u64
     x as u64
 }
 
-// Exclusive or.
+// The exclusive or of two blocks.
 pub fn xor(a: Block, b: Block) -> Block
     ensures { λ r. ⌜ r ≡ halves (bitXor (value a) (value b)) ⌝ }
 {
@@ -36,30 +36,31 @@ pub fn xor(a: Block, b: Block) -> Block
     }
 }
 
-// Whether two blocks are the same. Gathers what differs in all 16 bytes and folds it once more before the one test:
-// without the fold the compiler makes a test of each half, and how much of a block is right would be told by the time.
+// Whether two blocks are the same.
 pub fn equal(a: Block, b: Block) -> bool
     ensures { λ r. ⌜ r ≡ eqb (value a) (value b) ⌝ }
 {
+    // What differs in all 16 bytes, folded once more before the one test: without the fold the compiler makes a test of
+    // each half, and the time would tell how much of a block is right.
     let d = (a.lo ^ b.lo) | (a.hi ^ b.hi);
     (d | (d >> 32)) % 4294967296 == 0
 }
 
-// The block of n bytes of s, at most 16, from at on.
+// The block of n bytes of s, at most 16, from at on; what is not there reads as 0.
 pub fn load(s: &[u8], at: usize, n: usize) -> Block
     ensures { λ r. ⌜ r ≡ halves (loaded (now (s .entry)) at n) ⌝ }
 {
     gathered(s, at, n, 0)
 }
 
-// The same with Pad.
+// The block of n bytes of s, at most 16, from at on, with Pad: above fewer than 16 bytes stands a single 1 bit.
 pub fn load_pad(s: &[u8], at: usize, n: usize) -> Block
     ensures { λ r. ⌜ r ≡ halves (loadedPad (now (s .entry)) at n) ⌝ }
 {
     gathered(s, at, n, 1)
 }
 
-// Writes the first n bytes of b, at most 16, to s from at on.
+// Writes the first n bytes of b, at most 16, to s from at on, and nothing past the end.
 pub fn store(s: &mut [u8], at: usize, n: usize, b: Block)
     ensures { λ _. ⌜ now (s .exit) ≡ stored (now (s .entry)) at n (value b) ⌝ }
 {
@@ -76,7 +77,7 @@ pub fn store(s: &mut [u8], at: usize, n: usize, b: Block)
 pub fn add(s: &mut [u8], at: usize, t: &[u8], from: usize, n: usize)
     ensures { λ _. ⌜ now (s .exit) ≡ plusAt at (now (s .entry)) (part (now (t .entry)) from n) ⌝ }
 {
-    let m = least(left(s.len(), at), least(n, left(t.len(), from)));
+    let m = least(remaining(s.len(), at), least(n, remaining(t.len(), from)));
     let mut i = 0;
     while i < m {
         s[at + i] = s[at + i] ^ t[from + i];
@@ -84,7 +85,7 @@ pub fn add(s: &mut [u8], at: usize, t: &[u8], from: usize, n: usize)
     }
 }
 
-// The number of the two bytes of s from at on, the low one first.
+// The number of the two bytes of s from at on, the low one first; what is not there reads as 0.
 pub fn two(s: &[u8], at: usize) -> u16
     ensures { λ r. ⌜ r ≡ Block·two (now (s .entry)) at ⌝ }
 {
@@ -132,7 +133,7 @@ pub fn find(s: &[u8], from: usize, to: usize, b: u8) -> usize
     i
 }
 
-// The first n bytes of s, or all.
+// The first n bytes of s, or all: themselves and no copy.
 pub fn first(s: &[u8], n: usize) -> &[u8]
     ensures { λ r. ⌜ First r (s .entry) n ⌝ }
 {
@@ -143,7 +144,7 @@ pub fn first(s: &[u8], n: usize) -> &[u8]
 fn there(len: usize, at: usize, n: usize) -> usize
     ensures { λ r. ⌜ r ≡ min n (min 16 (len - at)) ⌝ }
 {
-    let l = left(len, at);
+    let l = remaining(len, at);
     if l < 16 {
         return least(n, l);
     }
@@ -151,7 +152,7 @@ fn there(len: usize, at: usize, n: usize) -> usize
 }
 
 // How many bytes a slice of len bytes has from at on.
-fn left(len: usize, at: usize) -> usize
+fn remaining(len: usize, at: usize) -> usize
     ensures { λ r. ⌜ r ≡ len - at ⌝ }
 {
     if len <= at { 0 } else { len - at }

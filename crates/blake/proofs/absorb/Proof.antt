@@ -4,7 +4,7 @@ use native.Mathlib.Omega.{arith}
 use denote.Ref.{now}
 use lib.ListN.{length, drop}
 use Rattle.blake.specs.Blake.{absorbed}
-use Rattle.blake.proofs.Hashing.{absorb-first, absorb-turn, absorb-last}
+use Rattle.blake.proofs.Hashing.{absorb-first, absorb-next, absorb-last}
 use borrow.Author.Needs.{needs}
 use Rattle.blake.proofs.absorb.Statement.{statement}
 use Rattle.blake.proofs.absorb.Tie as tie
@@ -41,7 +41,7 @@ loop-again : tie.Need-loop-again Inv-loop μ-loop
 loop-again c =
     let l = c .before .before .loop in
     let a = c .before .before .before .before .args in
-    (omega arith, absorb-turn (now (a .s)) (l .c) _ _ (a .t) (l .i) (omega arith) (c .compress-of .ensures) (l .inv .1))
+    (omega arith, absorb-next (now (a .s)) (l .c) _ _ (a .t) (l .i) (omega arith) (c .compress-of .ensures) (l .inv .1))
 
 add-compress-of-3 : tie.Need-add-compress-of-3 Inv-loop μ-loop
 add-compress-of-3 c = search needs

@@ -4,7 +4,7 @@ use native.Mathlib.Nat.{not-suc-le-zero}
 use native.Mathlib.Omega.{arith}
 use lib.Bits.{bitXor}
 use lib.ListN.{length, getD, length-set}
-use Rattle.words.proofs.Lists.{fill-turn, fill-end}
+use Rattle.words.proofs.Lists.{fill-next, fill-end}
 use Rattle.blake.specs.Blake.{folded}
 use borrow.Author.Needs.{needs}
 use Rattle.blake.proofs.folded_of.Statement.{statement}
@@ -59,7 +59,7 @@ loop-less c = search needs
 loop-again : tie.Need-loop-again Inv-loop μ-loop
 loop-again c =
     let l = c .before .loop in
-    (omega arith, length-set (l .r) (l .i) _ ∙ l .inv .1, fill-turn _ 0 (l .r) (l .i) _ (omega arith) (l .inv .2) refl)
+    (omega arith, length-set (l .r) (l .i) _ ∙ l .inv .1, fill-next _ 0 (l .r) (l .i) _ (omega arith) (l .inv .2) refl)
 
 returns : tie.Need-returns Inv-loop μ-loop
 unfolding folded

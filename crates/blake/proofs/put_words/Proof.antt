@@ -4,7 +4,7 @@ use native.Mathlib.Omega.{arith}
 use lib.ListN.{length, getD, drop}
 use lib.Seq.{sets}
 use Rattle.words.specs.Words.{unwords}
-use Rattle.words.proofs.WordLists.{stored-word, words-first, words-turn, words-end}
+use Rattle.words.proofs.WordLists.{stored-word, words-first, words-next, words-end}
 use borrow.Author.Needs.{needs}
 use Rattle.blake.proofs.put_words.Statement.{statement}
 use Rattle.blake.proofs.put_words.Tie as tie
@@ -47,7 +47,7 @@ loop-again c =
     let h = d .args .t2 in (
       omega arith,
       st .store .kept .0 ∙ l .inv .1,
-      words-turn 8 (l .i) (l .room) _ _ h (omega (arith, long d)) (st .store .ensures ∙ stored-word (l .room) (8 * l .i) 8 (getD h (l .i) 0) (omega arith)) (l .inv .2),
+      words-next 8 (l .i) (l .room) _ _ h (omega (arith, long d)) (st .store .ensures ∙ stored-word (l .room) (8 * l .i) 8 (getD h (l .i) 0) (omega arith)) (l .inv .2),
     )
 
 same-length : tie.Need-same-length Inv-loop μ-loop

@@ -7,7 +7,7 @@ use lib.ListN.{length, getD, length-set}
 use Rattle.words.specs.Block.{part}
 use Rattle.words.specs.Bytes.{number}
 use Rattle.words.specs.Words.{words}
-use Rattle.words.proofs.Lists.{fill-turn, fill-end}
+use Rattle.words.proofs.Lists.{fill-next, fill-end}
 use Rattle.blake.specs.Blake.{padded}
 use Rattle.blake.proofs.Hashing.{word-is}
 use borrow.Author.Needs.{needs}
@@ -48,7 +48,7 @@ loop-again c =
     let d = c .before .before .before in
     let a = d .before .args in
     let e = word-is (now (a .s)) (λ k. omega (arith, d .shared-slice-known .given k)) (l .i) (omega arith) (c .load .ensures) in
-    (omega arith, length-set (l .m) (l .i) _ ∙ l .inv .1, fill-turn _ 0 (l .m) (l .i) _ (omega arith) (l .inv .2) e)
+    (omega arith, length-set (l .m) (l .i) _ ∙ l .inv .1, fill-next _ 0 (l .m) (l .i) _ (omega arith) (l .inv .2) e)
 
 returns : tie.Need-returns Inv-loop μ-loop
 unfolding words

@@ -2,7 +2,7 @@ use mathlib.Core.Path.{_≡_, ap, _∙_}
 use denote.Ref.{now}
 use Rattle.answers.specs.Answers.{numberOf}
 use Rattle.books.specs.Entry.{badlyFormed}
-use Rattle.books.proofs.Finding.{told, bad, in-this, in-last}
+use Rattle.books.proofs.Finding.{answerOf, bad, in-this, in-last}
 use borrow.Author.Needs.{needs}
 use Rattle.books.proofs.find.Statement.{statement}
 use Rattle.books.proofs.find.Tie as tie
@@ -20,14 +20,14 @@ row-requires-2 : tie.Need-row-requires-2
 row-requires-2 c κs = search needs
 
 -- both books are judged by the definition's rows
-judged : (c : tie.After-row2) → let a = c .before .before .before .before .before .before .args in c .row2 .result ≡ numberOf (badlyFormed (now (a .this)) (now (a .last)))
+judged : (c : tie.After-row2) → let a = c .before .before .before .before .before .before .args in c .row2 .result ≡ numberOf (badlyFormed (now (a .this-term)) (now (a .last-term)))
 judged c = rw (c .row2 .ensures, c .before .row .ensures, c .before .before .before .well-formed .ensures, c .before .before .well-formed2 .ensures)
 
 nowhere-requires : tie.Need-nowhere-requires
 nowhere-requires c κs = search needs
 
 returns : tie.Need-returns
-returns c = ap told (c .nowhere .ensures) ∙ bad _ _ _ (judged (c .before .before)) (c .before .if1 .taken)
+returns c = ap answerOf (c .nowhere .ensures) ∙ bad _ _ _ (judged (c .before .before)) (c .before .if1 .taken)
 
 key-in-requires : tie.Need-key-in-requires
 key-in-requires c κs = search needs

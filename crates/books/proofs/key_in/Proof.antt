@@ -1,6 +1,6 @@
 use mathlib.Core.Path.{ap, _∙_}
 use borrow.Author.Tests.{lt-ltb, le-ltb}
-use Rattle.books.proofs.Finding.{told, holds-is}
+use Rattle.books.proofs.Finding.{answerOf, holds-is}
 use borrow.Author.Needs.{needs}
 use Rattle.books.proofs.key_in.Statement.{statement}
 use Rattle.books.proofs.key_in.Tie as tie
@@ -31,7 +31,7 @@ nowhere-requires c κs = search needs
 returns-2 : tie.Need-returns-2
 returns-2 c =
     let d = c .before .before in
-    ap told (c .nowhere .ensures) ∙ rw (holds-is _ _ (d .before .entry-of .ensures .0) (d .count-of .ensures .0), le-ltb _ _ (c .before .if1 .left))
+    ap answerOf (c .nowhere .ensures) ∙ rw (holds-is _ _ (d .before .entry-of .ensures .0) (d .count-of .ensures .0), le-ltb _ _ (c .before .if1 .left))
 
 pub key-in-spec : {M : Type 1} → statement M
 key-in-spec =

@@ -20,11 +20,11 @@ length-of-requires c κs = search needs
 -- the part lies within the book
 fits : (c : tie.After-length-of) →
     let f = c .before .before .find .result in
-    f .at + c .length-of .result ≤ length (now (c .before .book-of .result))
+    f .offset + c .length-of .result ≤ length (now (c .before .book-of .result))
 fits c =
     let d = c .before .before in
     let a = d .before .before .before .args in
-    part-fits (lent (a .this)) (lent (a .last)) _ (d .find .ensures) (c .before .book-of .ensures) (c .length-of .ensures)
+    part-fits (lent (a .this-term)) (lent (a .last-term)) _ (d .find .ensures) (c .before .book-of .ensures) (c .length-of .ensures)
 
 add-end : tie.Need-add-end
 add-end c = let h = fits c in omega (arith, h)

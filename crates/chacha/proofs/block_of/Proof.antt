@@ -5,7 +5,7 @@ use lib.ListN.{length, getD, drop}
 use lib.Seq.{sets}
 use Rattle.words.specs.Bytes.{bytes}
 use Rattle.words.specs.Words.{unwords}
-use Rattle.words.proofs.WordLists.{stored-word, words-turn, words-end}
+use Rattle.words.proofs.WordLists.{stored-word, words-next, words-end}
 use Rattle.chacha.specs.ChaCha.{sums}
 use Rattle.chacha.proofs.Rounds.{sum-at, length-sums, block-first, block-is}
 use borrow.Author.Needs.{needs}
@@ -67,7 +67,7 @@ loop-again c =
     let e : w .wrapping-add-u32 .result ≡ getD (sums s t) (l .i) 0 = w .wrapping-add-u32 .ensures ∙ sym (sum-at s t (l .i) h) in (
       omega arith,
       c .before .store .kept .0 ∙ l .inv .1,
-      words-turn 4 (l .i) (l .out) _ _ (sums s t) (omega (arith, length-sums s t))
+      words-next 4 (l .i) (l .out) _ _ (sums s t) (omega (arith, length-sums s t))
           (c .before .store .ensures ∙ stored-word (l .out) (4 * l .i) 4 _ (omega arith) ∙ ap (λ (x : ℕ). sets (l .out) (4 * l .i) (bytes 4 x)) e) (l .inv .2),
     )
 

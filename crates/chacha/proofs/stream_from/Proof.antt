@@ -7,7 +7,7 @@ use lib.ListN.{length, set, length-set}
 use Rattle.words.specs.Bytes.{plusAt}
 use Rattle.chacha.specs.ChaCha.{startState, blockFrom, blocks, keyStream, stream}
 use Rattle.chacha.proofs.Rounds.{start-set, length-start}
-use Rattle.chacha.proofs.Streams.{stream-first, stream-turn, stream-end}
+use Rattle.chacha.proofs.Streams.{stream-first, stream-next, stream-end}
 use borrow.Author.Needs.{needs}
 use Rattle.chacha.proofs.stream_from.Statement.{statement}
 use Rattle.chacha.proofs.stream_from.Tie as tie
@@ -77,7 +77,7 @@ loop-again c =
       c .before .before .add .kept .0 ∙ l .inv .3,
       length-set (l .s) 12 (l .c) ∙ l .inv .4,
       λ x. ap (λ (s : List ℕ). set s 12 x) (l .inv .5 (l .c)) ∙ start-set _ _ (l .c) x,
-      stream-turn (now (a .key)) (now (a .nonce)) (l .text) _ _ _ (l .c) (l .i) _ m ek (c .before .before .add .ensures) em (l .inv .6),
+      stream-next (now (a .key)) (now (a .nonce)) (l .text) _ _ _ (l .c) (l .i) _ m ek (c .before .before .add .ensures) em (l .inv .6),
     )
 
 same-length : tie.Need-same-length Inv-loop μ-loop

@@ -19,8 +19,8 @@ returns c =
 load-requires : tie.Need-load-requires
 load-requires c κs = search needs
 
-additions-of-requires : tie.Need-additions-of-requires
-additions-of-requires c κs = search needs
+round-keys-of-requires : tie.Need-round-keys-of-requires
+round-keys-of-requires c κs = search needs
 
 load-requires-2 : tie.Need-load-requires-2
 load-requires-2 c κs = search needs
@@ -42,7 +42,7 @@ returns-2 c =
     let a = f .before .before .before .before .args in
     crypted (a .back) (now (a .key)) (now (a .block))
     (judged-clear (rows (length (now (a .key))) (length (now (a .block)))) (f .before .refusal .ensures) tt (f .if1 .left))
-    (e .before .load .ensures) (e .additions-of .ensures) (d .before .before .load2 .ensures) (d .forty-rounds .ensures) (c .before .before .store .ensures)
+    (e .before .load .ensures) (e .round-keys-of .ensures) (d .before .before .load2 .ensures) (d .forty-rounds .ensures) (c .before .before .store .ensures)
 
 pub crypt-spec : {M : Type 1} → statement M
-crypt-spec = tie.close (tie.spec refusal-requires returns load-requires additions-of-requires load-requires-2 forty-rounds-requires store-requires same-length returns-2)
+crypt-spec = tie.close (tie.spec refusal-requires returns load-requires round-keys-of-requires load-requires-2 forty-rounds-requires store-requires same-length returns-2)

@@ -6,9 +6,9 @@ use lib.ListN.{getD}
 use Rattle.words.specs.Block.{value, halves}
 use Rattle.words.specs.Digits.{tab}
 use Rattle.words.proofs.Blocks.{value-is, halves-value}
-use Rattle.words.proofs.Turns.{turns-none, turns-next}
+use Rattle.words.proofs.Iterate.{iterate-none, iterate-next}
 use Rattle.gift.specs.Gift.{place, round, rounds, forty}
-use Rattle.gift.specs.Entry.{addition}
+use Rattle.gift.specs.Entry.{roundKeyIn}
 use Rattle.gift.proofs.forty_rounds.Statement.{statement}
 use Rattle.gift.proofs.forty_rounds.Tie as tie
 
@@ -20,10 +20,10 @@ abbrev μ-loop : tie.MeasureT-loop
 μ-loop back places rs y₀ r₀ y r = 40 - r
 
 loop-holds : tie.Need-loop-holds Inv-loop μ-loop
-loop-holds c = (omega arith, sym (ap halves (turns-none _ _) ∙ halves-value (c .before .args .x) (omega arith)))
+loop-holds c = (omega arith, sym (ap halves (iterate-none _ _) ∙ halves-value (c .before .args .x) (omega arith)))
 
-turn-requires : tie.Need-turn-requires Inv-loop μ-loop
-turn-requires c κs = omega arith
+round-index-requires : tie.Need-round-index-requires Inv-loop μ-loop
+round-index-requires c κs = omega arith
 
 mul-round-of : tie.Need-mul-round-of Inv-loop μ-loop
 mul-round-of c = omega arith
@@ -51,12 +51,12 @@ loop-again c =
       omega arith,
       c .round-of .ensures
           ∙ ap halves
-          (ap₂ (round (a .back)) (ap (λ (i : ℕ). value (getD (a .a .rounds) i (halves 0))) (d .turn .ensures .0)) (value-is (l .inv .1))
-          ∙ turns-next (λ i. round (a .back) (f i)) (l .r) (value (a .x)) refl refl),
+          (ap₂ (round (a .back)) (ap (λ (i : ℕ). value (getD (a .a .rounds) i (halves 0))) (d .round-index .ensures .0)) (value-is (l .inv .1))
+          ∙ iterate-next (λ i. round (a .back) (f i)) (l .r) (value (a .x)) refl refl),
     )
 
 returns : tie.Need-returns Inv-loop μ-loop
-unfolding forty addition
+unfolding forty roundKeyIn
 returns c =
     let l = c .before .loop in
     let a = c .before .before .before .args in
@@ -70,7 +70,7 @@ forty-rounds-spec =
     Inv-loop
     μ-loop
     loop-holds
-    turn-requires
+    round-index-requires
     mul-round-of
     array-copy-out-round-of
     round-of-requires

@@ -5,7 +5,7 @@ use native.Mathlib.Omega.{arith}
 use lib.ListN.{getD}
 use Rattle.words.specs.Block.{value, halves}
 use Rattle.words.specs.Digits.{xsum}
-use Rattle.words.proofs.Blocks.{sum-turn}
+use Rattle.words.proofs.Blocks.{sum-next}
 use Rattle.words.proofs.Lists.{tab-at}
 use Rattle.words.proofs.Tests.{cond-lt}
 use Rattle.gift.specs.Gift.{bit, place, permBits}
@@ -76,7 +76,7 @@ loop-again c =
     let l = d .before .before .before .before .before in
     let a = l .before .args in (
       omega arith,
-      sum-turn (λ k. bit (cond (a .back) (place k) k) (value (a .x)) * 2 ^ cond (a .back) k (place k)) (l .loop .i) (l .loop .inv .1) (c .put .ensures)
+      sum-next (λ k. bit (cond (a .back) (place k) k) (value (a .x)) * 2 ^ cond (a .back) k (place k)) (l .loop .i) (l .loop .inv .1) (c .put .ensures)
           (ap₂ (λ (v p : ℕ). v * 2 ^ p) (c .before .bits-at .ensures ∙ ap (λ (i : ℕ). bit i (value (a .x))) (from (d .before))) (to d)),
     )
 

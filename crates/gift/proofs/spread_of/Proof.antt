@@ -4,7 +4,7 @@ use native.Mathlib.Nat.{mod-lt, zero-lt-suc}
 use native.Mathlib.Omega.{arith}
 use Rattle.words.specs.Block.{halves}
 use Rattle.words.specs.Digits.{xsum}
-use Rattle.words.proofs.Blocks.{sum-turn}
+use Rattle.words.proofs.Blocks.{sum-next}
 use Rattle.gift.specs.Gift.{bit, spread}
 use Rattle.words.proofs.Fields.{put-fits}
 use Rattle.gift.proofs.spread_of.Statement.{statement}
@@ -45,7 +45,7 @@ unfolding spread
 loop-again c =
     let l = c .before .before .loop in
     let a = c .before .before .before .args in
-    (omega arith, sum-turn (λ k. bit k (a .u) * 2 ^ (4 * k + a .o)) (l .i) (l .inv .1) (c .put .ensures) refl)
+    (omega arith, sum-next (λ k. bit k (a .u) * 2 ^ (4 * k + a .o)) (l .i) (l .inv .1) (c .put .ensures) refl)
 
 returns : tie.Need-returns Inv-loop μ-loop
 returns c =

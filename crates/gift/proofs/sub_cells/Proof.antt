@@ -3,7 +3,7 @@ use mathlib.Core.Path.{_≡_, refl, sym, ap, ap₂, _∙_}
 use native.Mathlib.Omega.{arith}
 use Rattle.words.specs.Block.{value, halves}
 use Rattle.words.specs.Digits.{xsum}
-use Rattle.words.proofs.Blocks.{sum-turn}
+use Rattle.words.proofs.Blocks.{sum-next}
 use Rattle.words.proofs.Sums.{pow-pow}
 use Rattle.gift.specs.Gift.{nibble, sbox, subCells}
 use Rattle.words.proofs.Fields.{put-fits}
@@ -47,7 +47,7 @@ loop-again c =
     let l = d .loop in
     let a = d .before .args in (
       omega arith,
-      sum-turn (λ k. sbox (a .back) (nibble k (value (a .x))) * 16 ^ k) (l .j) (l .inv .1) (c .put .ensures)
+      sum-next (λ k. sbox (a .back) (nibble k (value (a .x))) * 16 ^ k) (l .j) (l .inv .1) (c .put .ensures)
           (ap₂ (λ (v p : ℕ). v * p) (c .before .sbox-of .ensures .0 ∙ ap (sbox (a .back)) (c .before .before .bits-at .ensures ∙ ap (λ (p : ℕ). value (a .x) / p % 16) (sym (pow-pow 4 (l .j))))) (sym (pow-pow 4 (l .j)))),
     )
 

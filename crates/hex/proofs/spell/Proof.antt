@@ -10,7 +10,7 @@ use lib.Seq.{sets}
 use denote.Ref.{now}
 use Rattle.words.specs.Bytes.{over}
 use Rattle.hex.specs.Hex.{written, spelling}
-use Rattle.hex.proofs.Hexes.{write-turn, write-end, write-first}
+use Rattle.hex.proofs.Hexes.{write-next, write-end, write-first}
 use borrow.Author.Needs.{needs}
 use Rattle.hex.proofs.spell.Statement.{statement}
 use Rattle.hex.proofs.spell.Tie as tie
@@ -50,7 +50,7 @@ loop-again c =
     let o = c .before .before in
     let l = o .before .before .before .before in
     let a = l .before .before .before .before .args in
-    (omega (arith, l .loop .inv .0, o .two .kept), write-turn (a .s .now) (l .loop .room) _ _ (l .loop .i) (omega arith) (o .two .ensures) (l .loop .inv .1))
+    (omega (arith, l .loop .inv .0, o .two .kept), write-next (a .s .now) (l .loop .room) _ _ (l .loop .i) (omega arith) (o .two .ensures) (l .loop .inv .1))
 
 same-length : tie.Need-same-length Inv-loop μ-loop
 same-length c = search needs

@@ -5,7 +5,7 @@ use denote.Ref.{now}
 use lib.ListN.{length, replicate, length-set}
 use Rattle.words.specs.Bytes.{over}
 use Rattle.words.proofs.Over.{over-none}
-use Rattle.hyena.proofs.Steps.{wipe-turn}
+use Rattle.hyena.proofs.Steps.{wipe-next}
 use borrow.Author.Needs.{needs}
 use Rattle.hyena.proofs.wipe.Statement.{statement}
 use Rattle.hyena.proofs.wipe.Tie as tie
@@ -34,7 +34,7 @@ loop-again c =
     let a = l .before .args in (
       omega arith,
       length-set (l .loop .room) (l .loop .i) 0 ∙ l .loop .inv .1,
-      wipe-turn (now (a .room)) (l .loop .room) (l .loop .i) (omega arith) (l .loop .inv .2),
+      wipe-next (now (a .room)) (l .loop .room) (l .loop .i) (omega arith) (l .loop .inv .2),
     )
 
 same-length : tie.Need-same-length Inv-loop μ-loop

@@ -1,7 +1,7 @@
 use mathlib.Core.Path.{_≡_, sym, ap, _∙_}
 use Prim.Native.Nat.{_-_, _≤_}
 use native.Mathlib.Omega.{arith}
-use Rattle.words.proofs.Turns.{turns-none, turns-next}
+use Rattle.words.proofs.Iterate.{iterate-none, iterate-next}
 use Rattle.mode.specs.Hyena.{double, doubles}
 use borrow.Author.Needs.{needs}
 use Rattle.hyena_blocks.proofs.doubled.Statement.{statement}
@@ -14,7 +14,7 @@ abbrev μ-loop : tie.MeasureT-loop
 μ-loop k mask x₀ i₀ x i = k - i
 
 loop-holds : tie.Need-loop-holds Inv-loop μ-loop
-loop-holds c = (omega arith, sym (turns-none (λ i. double) (c .args .mask)))
+loop-holds c = (omega arith, sym (iterate-none (λ i. double) (c .args .mask)))
 
 double-of-requires : tie.Need-double-of-requires Inv-loop μ-loop
 double-of-requires c κs = search needs
@@ -26,7 +26,7 @@ loop-less : tie.Need-loop-less Inv-loop μ-loop
 loop-less c = search needs
 
 loop-again : tie.Need-loop-again Inv-loop μ-loop
-loop-again c = (omega arith, turns-next (λ i. double) (c .before .before .loop .i) (c .before .before .before .args .mask) (c .before .before .loop .inv .1) (c .double-of .ensures))
+loop-again c = (omega arith, iterate-next (λ i. double) (c .before .before .loop .i) (c .before .before .before .args .mask) (c .before .before .loop .inv .1) (c .double-of .ensures))
 
 returns : tie.Need-returns Inv-loop μ-loop
 returns c =

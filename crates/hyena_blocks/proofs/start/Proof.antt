@@ -34,8 +34,8 @@ returns c =
     let k = l .before .before in
     let a = k .before .args in
     let h : Bytes (now (a .nonce)) = λ i. omega (arith, k .shared-slice-known .given i) in
-    started-is (enciphers (a .e)) (startBlock (take 12 (now (a .nonce))) (a .ad) (a .text)) _
-    (start-is (now (a .nonce)) (a .ad) (a .text) _ h (l .before .load .ensures) (l .load2 .ensures) (m .marks .ensures .0))
+    started-is (enciphers (a .e)) (startBlock (take 12 (now (a .nonce))) (a .«data») (a .text)) _
+    (start-is (now (a .nonce)) (a .«data») (a .text) _ h (l .before .load .ensures) (l .load2 .ensures) (m .marks .ensures .0))
     (c .before .block .ensures) (c .double-of .ensures)
 
 pub start-spec : {M : Type 1} → statement M

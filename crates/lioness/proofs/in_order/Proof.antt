@@ -9,7 +9,8 @@ use Rattle.answers.specs.Answers.{answered}
 use Rattle.answers.proofs.Answers.{Clear, refuse-clear, judged-refused, judged-clear}
 use Rattle.lioness.specs.Lioness.{steps}
 use Rattle.lioness.specs.Entry.{chacha, blake, rows, ordered}
-use Rattle.lioness.proofs.Steps.{Allowed, allowed}
+use Rattle.lioness.specs.Steps.{Allowed}
+use Rattle.lioness.proofs.Steps.{allowed}
 use borrow.Author.Needs.{needs}
 use Rattle.lioness.proofs.in_order.Statement.{statement}
 use Rattle.lioness.proofs.in_order.Tie as tie
@@ -29,10 +30,10 @@ clear c =
     let a = c .before .before .before .before .before .args in
     judged-clear (rows (length (now (a .key))) (length (now (a .iv))) (length (now (a .block)))) (c .before .refusal .ensures) tt (c .if1 .left)
 
-lengths : (c : tie.Else1) → let a = c .before .before .before .before .before .args in Allowed (length (now (a .key))) (length (now (a .iv))) (length (now (a .block)))
+lengths : (c : tie.Else1) → let a = c .before .before .before .before .before .args in Allowed (now (a .key)) (now (a .iv)) (now (a .block))
 lengths c =
     let a = c .before .before .before .before .before .args in
-    allowed (length (now (a .key))) (length (now (a .iv))) (length (now (a .block))) (clear c)
+    allowed (now (a .key)) (now (a .iv)) (now (a .block)) (clear c)
 
 slice-aggregate-four-steps : tie.Need-slice-aggregate-four-steps
 slice-aggregate-four-steps c =

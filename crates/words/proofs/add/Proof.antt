@@ -7,7 +7,7 @@ use lib.ListN.{length, drop, length-set}
 use borrow.Author.Needs.{needs}
 use Rattle.words.specs.Block.{part}
 use Rattle.words.specs.Bytes.{plusAt}
-use Rattle.words.proofs.Plus.{plusAt-turn, plusAt-end}
+use Rattle.words.proofs.Plus.{plusAt-next, plusAt-end}
 use Rattle.words.proofs.add.Statement.{statement}
 use Rattle.words.proofs.add.Tie as tie
 
@@ -18,11 +18,11 @@ Inv-loop s₀ at t from n m i₀ s i =
 abbrev μ-loop : tie.MeasureT-loop
 μ-loop s₀ at t from n m i₀ s i = m - i
 
-left-requires : tie.Need-left-requires Inv-loop μ-loop
-left-requires c κs = search needs
+remaining-requires : tie.Need-remaining-requires Inv-loop μ-loop
+remaining-requires c κs = search needs
 
-left-requires-2 : tie.Need-left-requires-2 Inv-loop μ-loop
-left-requires-2 c κs = search needs
+remaining-requires-2 : tie.Need-remaining-requires-2 Inv-loop μ-loop
+remaining-requires-2 c κs = search needs
 
 least-requires : tie.Need-least-requires Inv-loop μ-loop
 least-requires c κs = search needs
@@ -62,7 +62,7 @@ loop-again c =
     let d = c .before .before .before in
     let l = d .loop in
     let a = d .before .before .before .before .before .before .before .args in
-    (search needs, simp length-set (l .inv .1), plusAt-turn (now (a .t)) (a .from) (a .n) (a .at) (l .i) (l .s) _ (omega arith) (omega arith) (omega arith) (l .inv .2))
+    (search needs, simp length-set (l .inv .1), plusAt-next (now (a .t)) (a .from) (a .n) (a .at) (l .i) (l .s) _ (omega arith) (omega arith) (omega arith) (l .inv .2))
 
 same-length : tie.Need-same-length Inv-loop μ-loop
 same-length c = c .before .loop .inv .1
@@ -72,7 +72,7 @@ returns c =
     let l = c .before .loop in
     let d = c .before .before in
     let a = d .before .before .before .before .before .before .args in
-    let e = d .least2 .ensures ∙ ap₂ min (d .before .before .before .left .ensures) (d .before .least .ensures ∙ ap (min (a .n)) (d .before .before .left2 .ensures)) in
+    let e = d .least2 .ensures ∙ ap₂ min (d .before .before .before .remaining .ensures) (d .before .least .ensures ∙ ap (min (a .n)) (d .before .before .remaining2 .ensures)) in
     let f : min (length (now (a .s)) - a .at) (min (a .n) (length (now (a .t)) - a .from)) ≡ min (length (l .s) - a .at) (min (a .n) (length (now (a .t)) - a .from)) =
     ap (λ (k : ℕ). min (k - a .at) (min (a .n) (length (now (a .t)) - a .from))) (sym (l .inv .1)) in
     sym (plusAt-end (now (a .t)) (a .from) (a .n) (a .at) (l .i) (l .s) _ (e ∙ f) (c .loop-test .left)) ∙ l .inv .2
@@ -83,8 +83,8 @@ add-spec =
     (tie.spec
     Inv-loop
     μ-loop
-    left-requires
-    left-requires-2
+    remaining-requires
+    remaining-requires-2
     least-requires
     least-requires-2
     loop-holds

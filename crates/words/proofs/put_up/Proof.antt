@@ -6,7 +6,7 @@ use lib.ListN.{length, length-set}
 use lib.Seq.{sets}
 use borrow.Author.Needs.{needs}
 use Rattle.words.specs.Bytes.{bytes}
-use Rattle.words.proofs.Bytes.{put-turn, bytes-none}
+use Rattle.words.proofs.Bytes.{put-next, bytes-none}
 use Rattle.words.proofs.put_up.Statement.{statement}
 use Rattle.words.proofs.put_up.Tie as tie
 
@@ -39,7 +39,7 @@ loop-again : tie.Need-loop-again Inv-loop μ-loop
 loop-again c =
     let l = c .before .loop in
     let a = c .before .before .args in
-    (search needs, simp length-set (l .inv .1), put-turn (l .s) _ (a .at) (l .i) (a .n) (l .rest) (c .loop-test .taken) (l .inv .2))
+    (search needs, simp length-set (l .inv .1), put-next (l .s) _ (a .at) (l .i) (a .n) (l .rest) (c .loop-test .taken) (l .inv .2))
 
 same-length : tie.Need-same-length Inv-loop μ-loop
 same-length c = c .before .loop .inv .1

@@ -4,7 +4,7 @@ use native.Mathlib.Omega.{arith}
 use lib.ListN.{length, drop}
 use denote.Ref.{now}
 use Rattle.words.specs.Search.{same}
-use Rattle.words.proofs.Search.{other-length, same-turn, differ, same-end}
+use Rattle.words.proofs.Search.{other-length, same-next, differ, same-end}
 use borrow.Author.Needs.{needs}
 use Rattle.words.proofs.same.Statement.{statement}
 use Rattle.words.proofs.same.Tie as tie
@@ -45,7 +45,7 @@ loop-again c =
     let l = c .before .before .before .before in
     let d = l .before in
     let a = d .before .args in
-    same-turn (a .s .now) (a .t .now) (l .loop .i) (omega arith) (d .if1 .left) (c .if2 .left) (l .loop .inv)
+    same-next (a .s .now) (a .t .now) (l .loop .i) (omega arith) (d .if1 .left) (c .if2 .left) (l .loop .inv)
 
 returns-3 : tie.Need-returns-3 Inv-loop μ-loop
 returns-3 c =

@@ -5,7 +5,7 @@ use lib.ListN.{getD}
 use denote.Ref.{now}
 use borrow.Author.Needs.{needs}
 use Rattle.words.specs.Bytes.{number}
-use Rattle.words.proofs.Words.{rest, rest-above, rest-turn, rest-fits}
+use Rattle.words.proofs.Words.{rest, rest-above, rest-next, rest-fits}
 use Rattle.words.proofs.word_down.Statement.{statement}
 use Rattle.words.proofs.word_down.Tie as tie
 
@@ -24,7 +24,7 @@ loop-holds c =
     let a = d .args in
     (omega arith, c .above .ensures ∙ sym (rest-above (now (a .s)) (a .at) (a .n) (a .top) (d .pre .0) (d .pre .1)))
 
--- what a turn makes of acc, and that it fits
+-- what a step makes of acc, and that it fits
 turn : (c : tie.In-loop Inv-loop μ-loop) →
     let l = c .before .loop in
     let a = c .before .before .before .before .args in
@@ -36,7 +36,7 @@ turn c =
     let l = c .before .loop in
     let g = c .before .before .before .shared-slice-known .given in
     let s = now (a .s) in (
-      rw (l .inv .1) (rest-turn s (a .at) (a .n) (a .top) (d .pre .0) (d .pre .1) (l .i) (c .loop-test .taken) (l .inv .0)),
+      rw (l .inv .1) (rest-next s (a .at) (a .n) (a .top) (d .pre .0) (d .pre .1) (l .i) (c .loop-test .taken) (l .inv .0)),
       rest-fits s (a .at) (a .n) (a .top) (d .pre .0) (d .pre .1) (l .i - 1) (omega arith) (λ k. omega (arith, g k)),
     )
 

@@ -5,10 +5,10 @@ use Rattle.cards.proofs.inputs.hex_from.Statement.{statement}
 use Rattle.cards.proofs.inputs.hex_from.Tie as tie
 
 abbrev Inv-loop : tie.InvT-loop
-Inv-loop fd room₀ h₀ chunk₀ turns₀ room h chunk turns = (length room ≡ length room₀) × (65536 ≡ length chunk)
+Inv-loop fd room₀ h₀ chunk₀ fuel₀ room h chunk fuel = (length room ≡ length room₀) × (65536 ≡ length chunk)
 
 abbrev μ-loop : tie.MeasureT-loop
-μ-loop fd room₀ h₀ chunk₀ turns₀ room h chunk turns = turns
+μ-loop fd room₀ h₀ chunk₀ fuel₀ room h chunk fuel = fuel
 
 begin-requires : tie.Need-begin-requires Inv-loop μ-loop
 begin-requires c κs = search needs
@@ -52,8 +52,8 @@ slice-aggregate-take-in c = search needs
 take-in-requires : tie.Need-take-in-requires Inv-loop μ-loop
 take-in-requires c κs = search needs
 
-sub-turns : tie.Need-sub-turns Inv-loop μ-loop
-sub-turns c = search needs
+sub-fuel : tie.Need-sub-fuel Inv-loop μ-loop
+sub-fuel c = search needs
 
 loop-less : tie.Need-loop-less Inv-loop μ-loop
 loop-less c = search needs
@@ -90,7 +90,7 @@ hex-from-spec =
     array-share-prefix-chunk
     slice-aggregate-take-in
     take-in-requires
-    sub-turns
+    sub-fuel
     loop-less
     loop-again
     ended-requires-2

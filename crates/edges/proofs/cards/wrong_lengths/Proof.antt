@@ -4,10 +4,10 @@ use Rattle.edges.proofs.cards.wrong_lengths.Statement.{statement}
 use Rattle.edges.proofs.cards.wrong_lengths.Tie as tie
 
 abbrev Inv-loop : tie.InvT-loop
-Inv-loop key nonce ad text m₀ m = m ≤ 64
+Inv-loop key nonce «data» text m₀ m = m ≤ 64
 
 abbrev μ-loop : tie.MeasureT-loop
-μ-loop key nonce ad text m₀ m = 64 - m
+μ-loop key nonce «data» text m₀ m = 64 - m
 
 loop-holds : tie.Need-loop-holds Inv-loop μ-loop
 loop-holds c = search needs

@@ -4,10 +4,10 @@ use Rattle.edges.proofs.cards.wrong_tags.Statement.{statement}
 use Rattle.edges.proofs.cards.wrong_tags.Tie as tie
 
 abbrev Inv-loop : tie.InvT-loop
-Inv-loop key nonce ad text bit₀ bit = bit ≤ 128
+Inv-loop key nonce «data» text bit₀ bit = bit ≤ 128
 
 abbrev μ-loop : tie.MeasureT-loop
-μ-loop key nonce ad text bit₀ bit = 128 - bit
+μ-loop key nonce «data» text bit₀ bit = 128 - bit
 
 loop-holds : tie.Need-loop-holds Inv-loop μ-loop
 loop-holds c = search needs

@@ -4,12 +4,12 @@ use borrow.Author.Needs.{needs}
 use Rattle.hyena_blocks.proofs.keyed.keyed_of.Statement.{statement}
 use Rattle.hyena_blocks.proofs.keyed.keyed_of.Tie as tie
 
-additions-of-requires : tie.Need-additions-of-requires
-additions-of-requires c κs = search needs
+round-keys-of-requires : tie.Need-round-keys-of-requires
+round-keys-of-requires c κs = search needs
 
 returns : tie.Need-returns
 unfolding keyed
-returns c = ap (λ a. record { additions = a }) (c .additions-of .ensures)
+returns c = ap (λ a. record { keys = a }) (c .round-keys-of .ensures)
 
 pub keyed-of-spec : {M : Type 1} → statement M
-keyed-of-spec = tie.close (tie.spec additions-of-requires returns)
+keyed-of-spec = tie.close (tie.spec round-keys-of-requires returns)

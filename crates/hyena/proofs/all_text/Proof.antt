@@ -1,0 +1,88 @@
+use mathlib.Core.Path.{_≡_, refl, subst}
+use Prim.Native.Nat.{_-_, _≤_, _<_}
+use native.Mathlib.Omega.{arith}
+use denote.Ref.{now}
+use lib.ListN.{length}
+use Rattle.mode.specs.Hyena.{before, textAt}
+use Rattle.hyena_blocks.specs.Steps.{enciphers, readX}
+use Rattle.hyena.proofs.Steps.{Held, text-start, text-next, text-end, text-empty}
+use borrow.Author.Needs.{needs}
+use Rattle.hyena.proofs.all_text.Statement.{statement}
+use Rattle.hyena.proofs.all_text.Tie as tie
+
+abbrev Inv-loop : tie.InvT-loop
+Inv-loop opening e text room₀ n s₀ i₀ room s i =
+    (i ≤ n) × (length room ≡ length room₀) × Held (textAt (enciphers e) opening text (readX s₀) i) room₀ s room
+
+abbrev μ-loop : tie.MeasureT-loop
+μ-loop opening e text room₀ n s₀ i₀ room s i = n - i
+
+returns : tie.Need-returns Inv-loop μ-loop
+returns c =
+    let a = c .before .before .before .args in
+    text-empty (enciphers (a .e)) (a .opening) (a .t) (now (a .text)) (now (a .room)) (omega arith) (c .if1 .taken)
+
+sub-n : tie.Need-sub-n Inv-loop μ-loop
+sub-n c = search needs
+
+loop-holds : tie.Need-loop-holds Inv-loop μ-loop
+loop-holds c =
+    let a = c .before .before .before .args in
+    (omega arith, refl, text-start (enciphers (a .e)) (a .opening) (a .t) (now (a .text)) (now (a .room)) (omega arith))
+
+mul-text-part : tie.Need-mul-text-part Inv-loop μ-loop
+mul-text-part c = search needs
+
+text-part-requires : tie.Need-text-part-requires Inv-loop μ-loop
+text-part-requires c κs = search needs
+
+add-i : tie.Need-add-i Inv-loop μ-loop
+add-i c = search needs
+
+loop-less : tie.Need-loop-less Inv-loop μ-loop
+loop-less c = search needs
+
+loop-again : tie.Need-loop-again Inv-loop μ-loop
+loop-again c =
+    let p = c .before .before in
+    let l = p .before .before .before in
+    let d = l .before .before .before .before in
+    let a = d .args in
+    let t : l .loop .i < before (now (a .text)) = omega arith in (
+      omega arith,
+      search needs,
+      text-next (enciphers (a .e)) (a .opening) (now (a .text)) (now (a .room)) (readX (a .t)) refl (l .loop .i) t (l .loop .inv .2) (p .text-part .ensures .0) (p .text-part .ensures .1),
+    )
+
+mul-last : tie.Need-mul-last Inv-loop μ-loop
+mul-last c = search needs
+
+sub-last : tie.Need-sub-last Inv-loop μ-loop
+sub-last c = search needs
+
+if-full-requires : tie.Need-if-full-requires Inv-loop μ-loop
+if-full-requires c κs = search needs
+
+mul-text-part-2 : tie.Need-mul-text-part-2 Inv-loop μ-loop
+mul-text-part-2 c = search needs
+
+text-part-requires-2 : tie.Need-text-part-requires-2 Inv-loop μ-loop
+text-part-requires-2 c κs = search needs
+
+same-length : tie.Need-same-length Inv-loop μ-loop
+same-length c = search needs
+
+returns-2 : tie.Need-returns-2 Inv-loop μ-loop
+returns-2 c =
+    let p = c .before .before in
+    let f = p .before .before in
+    let l = f .before .before in
+    let d = l .before .before .before .before in
+    let a = d .args in
+    let e : l .loop .i ≡ before (now (a .text)) = omega arith in
+    text-end (enciphers (a .e)) (a .opening) (now (a .text)) (now (a .room)) (readX (a .t)) refl _ (l .before .if1 .left)
+    (subst (λ i. Held (textAt (enciphers (a .e)) (a .opening) (now (a .text)) (readX (a .t)) i) (now (a .room)) (l .loop .s) (l .loop .room)) e (l .loop .inv .2))
+    (f .if-full .ensures) (p .text-part2 .ensures .0) (p .text-part2 .ensures .1)
+
+pub all-text-spec : {M : Type 1} → statement M
+all-text-spec = tie.close (tie.spec Inv-loop μ-loop returns sub-n loop-holds mul-text-part text-part-requires add-i loop-less loop-again mul-last sub-last if-full-requires mul-text-part-2 text-part-requires-2 same-length returns-2)

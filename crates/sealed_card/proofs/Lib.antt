@@ -1,0 +1,3 @@
+pub mod SealedCards
+pub mod Unique
+pub mod Trip
