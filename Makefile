@@ -1,7 +1,7 @@
-# `make` proves and builds the archive and the Rust crate over it, `make tool` the office's tool; `make install` puts header,
-# archive and a pkg-config file under PREFIX (and DESTDIR before it, for packages), `make install-tool` the tool and its man
-# page. `make check` is the whole gate, `make wrong` tries the wrong programs that it does not try, `make bench` is the
-# benchmark.
+# `make` proves and builds the archive and the Rust crate over it, `make tool` the office's tool; `make install` puts
+# header, archive and a pkg-config file under PREFIX (and DESTDIR before it, for packages), `make install-tool` the
+# tool and its man page. `make check` is the whole gate, `make wrong` tries the wrong programs that it does not try,
+# `make bench` is the benchmark.
 
 PREFIX ?= /usr/local
 includedir = $(PREFIX)/include
@@ -17,14 +17,15 @@ all: archive crate
 
 archive: $(archive)
 
+# tools/prove runs rt, and says on standard error which crate is being proved, and of how many.
 $(archive): $(sources)
-	@log=$$(rt staticlib vespruldo 2>&1) || { echo "$$log"; exit 1; }; echo "$$log" | tail -n 1
+	@tools/prove staticlib vespruldo
 
 tool: $(tool)
 
 # What was proved and has not changed is not proved again, and the program not linked anew: so its time is set here.
 $(tool): $(sources)
-	@log=$$(rt check cards 2>&1) || { echo "$$log"; exit 1; }; echo "$$log" | tail -n 1
+	@tools/prove check cards
 	@touch $(tool)
 
 crate: $(archive)

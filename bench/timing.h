@@ -24,7 +24,7 @@ struct subject {
     work *versions[VERSIONS];
     /* Of the text, rising; a 0 is behind the last. Each is a row. */
     size_t lengths[MOST_LENGTHS + 1];
-    /* Bytes that the work is done on besides the text. */
+    /* Bytes that the work is done on in addition to the text. */
     size_t more;
 };
 

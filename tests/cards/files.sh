@@ -317,7 +317,7 @@ limits_that_kill() {
     rm -f ./*.part
 }
 
-# In a namespace of its own where that is to be had, so that nothing is left mounted whatever happens.
+# In a namespace of its own where there can be one, so that nothing is left mounted whatever happens.
 full_disk() {
     local flags
     mkdir disk

@@ -1,5 +1,5 @@
--- Answers: a promise that is an equation allows one result, the first row that applies has the smallest number, and an answer is
--- undone where the outputs are.
+-- Answers: a promise that is an equation allows one result, the first row that applies has the smallest number, and an
+-- answer is undone where the outputs are.
 use mathlib.Core.Path.{_≡_, refl, sym, ap, subst, subst⁻¹, _∙_}
 use mathlib.Core.Logic.{_⊎_, inl, inr, ⊎-elim}
 use mathlib.Core.Bool.{Bool, true, false, cond, not, _&&_}
@@ -19,7 +19,8 @@ abbrev outcome : {A : Type 0} → Answer A → A
 outcome a = a .outcome
 
 -- the number and the memory of two answers that one promise allows are equal
-pub same-answer : {A : Type 0} {m n : ℕ} {a b : A} {z : Answer A} → answered m a ≡ z → answered n b ≡ z → (m ≡ n) × (a ≡ b)
+pub same-answer : {A : Type 0} {m n : ℕ} {a b : A} {z : Answer A} → answered m a ≡ z → answered n b ≡ z
+    → (m ≡ n) × (a ≡ b)
 same-answer p q = (ap number (same p q), ap outcome (same p q))
 
 -- ---- a list of rows
@@ -49,7 +50,9 @@ clear-or-given (r ∷ rs) = by (r .applies) refl (clear-or-given rs)
         inr
         (record {
           is = λ kept follows. rw e;
-          some = λ n z. subst (λ (x : ℕ). T (not (eqb x 0))) (rw e at z) (and-left (not (eqb (r .number) 0)) (numbered rs) n);
+          some =
+              λ n z. subst (λ (x : ℕ). T (not (eqb x 0))) (rw e at z)
+              (and-left (not (eqb (r .number) 0)) (numbered rs) n);
         })
     by false e (inl c) = inl (e, c)
     by false e (inr g) =
@@ -80,11 +83,14 @@ module _ {A : Type 0} (kept : A) (follows : Answer A) (rows : List Row) where
 
 module _ {A : Type 0} (done kept : A) (rows : List Row) where
   -- 0 comes with the outputs, where no row applies
-  pub answer-done : T (numbered rows) → answer rows done kept .number ≡ 0 → Clear rows × (answer rows done kept ≡ answered 0 done)
-  answer-done n e = let c = refuse-done kept (answered 0 done) rows n e .0 in (c, refuse-clear kept (answered 0 done) rows c)
+  pub answer-done : T (numbered rows) → answer rows done kept .number ≡ 0
+      → Clear rows × (answer rows done kept ≡ answered 0 done)
+  answer-done n e = let c = refuse-done kept (answered 0 done) rows n e .0 in
+      (c, refuse-clear kept (answered 0 done) rows c)
 
   -- what the outputs have with 0, and the memory as it was with any other number, an answer has
-  pub answer-has : (P : Answer A → Type 0) → T (numbered rows) → (Clear rows → P (answered 0 done)) → ((n : ℕ) → (n ≡ 0 → ⊥) → P (answered n kept))
+  pub answer-has : (P : Answer A → Type 0) → T (numbered rows) → (Clear rows → P (answered 0 done))
+      → ((n : ℕ) → (n ≡ 0 → ⊥) → P (answered n kept))
       → P (answer rows done kept)
   answer-has P n hd hk =
       ⊎-elim (λ (c : Clear rows). subst⁻¹ P (refuse-clear kept (answered 0 done) rows c) (hd c))
@@ -93,19 +99,23 @@ module _ {A : Type 0} (done kept : A) (rows : List Row) where
 
 -- ---- the number that code builds of the same rows, for the entry point that goes by it
 module _ (rows : List Row) {r : ℕ} (er : r ≡ numberOf rows) where
-  pub judged-refused : {A : Type 0} (kept : A) (follows : Answer A) → (r ≡ 0 → ⊥) → answered r kept ≡ refuse rows kept follows
+  pub judged-refused : {A : Type 0} (kept : A) (follows : Answer A) → (r ≡ 0 → ⊥)
+      → answered r kept ≡ refuse rows kept follows
   judged-refused kept follows h =
       ap (λ (n : ℕ). answered n kept) er
       ∙ sym
-      (⊎-elim (λ (c : Clear rows). absurd (h (er ∙ clear-number rows c))) (λ (g : Given rows). g .is kept follows) (clear-or-given rows))
+      (⊎-elim (λ (c : Clear rows). absurd (h (er ∙ clear-number rows c))) (λ (g : Given rows). g .is kept follows)
+      (clear-or-given rows))
 
   pub judged-clear : T (numbered rows) → r ≡ 0 → Clear rows
-  judged-clear n e = ⊎-elim (λ (c : Clear rows). c) (λ (g : Given rows). absurd (g .some n (sym er ∙ e))) (clear-or-given rows)
+  judged-clear n e =
+      ⊎-elim (λ (c : Clear rows). c) (λ (g : Given rows). absurd (g .some n (sym er ∙ e))) (clear-or-given rows)
 
 -- ---- "Where several apply, the smallest number is given."
 
 -- the definitions computed: the smallest is not the first, and what does not apply is no candidate
-smallest-computes : _≡_ {A = ℕ} (smallest (applying (record { applies = true; number = 6 } ∷ record { applies = false; number = 2 } ∷ record { applies = true; number = 4 } ∷ []))) 4
+smallest-computes : _≡_ {A = ℕ} (smallest (applying (record { applies = true; number = 6 }
+    ∷ record { applies = false; number = 2 } ∷ record { applies = true; number = 4 } ∷ []))) 4
 smallest-computes = refl
 
 -- the numbers of the rows rise, from n on
@@ -128,10 +138,15 @@ smallest-first n (m ∷ s) a = omega (arith, smallest-least n m s (a .0) (a .1))
 rising-least : (k n : ℕ) (rows : List Row) → k ≤ n → T (rising n rows) → AtLeast k (applying rows)
 rising-least k n [] h t = tt
 rising-least k n (r ∷ rs) h t =
-    let here : k ≤ r .number = omega (arith, leb→le n (r .number) (and-left (leb n (r .number)) (rising (r .number) rs) t)) in
+    let here : k ≤ r .number = omega (
+      arith,
+      leb→le n (r .number)
+          (and-left (leb n (r .number)) (rising (r .number) rs) t),
+    ) in
     by (r .applies) here (rising-least k (r .number) rs here (and-right (leb n (r .number)) (rising (r .number) rs) t))
   where
-    by : (b : Bool) → k ≤ r .number → AtLeast k (applying rs) → AtLeast k (cond b (r .number ∷ applying rs) (applying rs))
+    by : (b : Bool) → k ≤ r .number → AtLeast k (applying rs)
+        → AtLeast k (cond b (r .number ∷ applying rs) (applying rs))
     by true here rest = (here, rest)
     by false here rest = rest
 
@@ -151,9 +166,12 @@ module _ {A : Type 0} (kept : A) (follows : Answer A) (more : List Row) (e : fol
   -- the number of an answer by rows, where what follows goes by more of them
   pub answered-number : (rows : List Row) → refuse rows kept follows .number ≡ numberOf (rows ++ more)
   answered-number [] = e
-  answered-number (r ∷ rs) = cond-of number (r .applies) (answered (r .number) kept) (refuse rs kept follows) ∙ ap (cond (r .applies) (r .number)) (answered-number rs)
+  answered-number (r ∷ rs) =
+      cond-of number (r .applies) (answered (r .number) kept) (refuse rs kept follows)
+      ∙ ap (cond (r .applies) (r .number)) (answered-number rs)
 
-  pub least-answered : (rows : List Row) → T (rising 1 (rows ++ more)) → refuse rows kept follows .number ≡ smallest (applying (rows ++ more))
+  pub least-answered : (rows : List Row) → T (rising 1 (rows ++ more))
+      → refuse rows kept follows .number ≡ smallest (applying (rows ++ more))
   least-answered rows t = answered-number rows ∙ least 1 (rows ++ more) t
 
 -- ---- an entry point that works in place on memory x, and one that undoes it
@@ -163,7 +181,8 @@ module _ {A : Type 0} (rows : A → List Row) (there back : A → A) (x : A) whe
   Back a = answer (rows (a .outcome)) (back (a .outcome)) (a .outcome) ≡ answered (a .number) x
 
   -- so it is, whether x was refused or not, where the outputs are judged as x was and are undone
-  pub undone : (Clear (rows x) → rows (there x) ≡ rows x) → (Clear (rows x) → back (there x) ≡ x) → Back (answer (rows x) (there x) x)
+  pub undone : (Clear (rows x) → rows (there x) ≡ rows x) → (Clear (rows x) → back (there x) ≡ x)
+      → Back (answer (rows x) (there x) x)
   undone judged h =
       ⊎-elim
       (λ (c : Clear (rows x)). subst⁻¹ Back (refuse-clear x (answered 0 (there x)) (rows x) c)

@@ -1,5 +1,5 @@
--- BLAKE2b, as RFC 7693 fixes it; the numbers of its sections stand before each part. Words have 64 bits; a vector is a list
--- of sixteen of them, a chain value a list of eight.
+-- BLAKE2b, as RFC 7693 fixes it; the numbers of its sections stand before each part. Words have 64 bits; a vector is a
+-- list of sixteen of them, a chain value a list of eight.
 use Prim.Native.Nat.{ℕ, zero, suc, _+_, _-_, _*_, _/_, _%_, _^_}
 use mathlib.Core.Bool.{Bool, true, false, cond}
 use mathlib.Core.List.{List, [], _∷_, _++_}
@@ -38,8 +38,8 @@ sigmaTable =
 unfoldable pub sigma : ℕ → ℕ → ℕ
 sigma r i = getD sigmaTable (r % 10 * 16 + i) 0
 
--- ---- 3.1, the mixing function G: a += b + x; d = (d ^ a) >>> 32; c += d; b = (b ^ c) >>> 24; a += b + y; d = (d ^ a) >>> 16;
--- c += d; b = (b ^ c) >>> 63
+-- ---- 3.1, the mixing function G: a += b + x; d = (d ^ a) >>> 32; c += d; b = (b ^ c) >>> 24; a += b + y; d = (d ^ a)
+-- >>> 16; c += d; b = (b ^ c) >>> 63
 
 unfoldable pub mixed : ℕ → ℕ → ℕ → ℕ → ℕ → ℕ → Quad
 mixed a b c d x y =
@@ -71,8 +71,8 @@ round m r v = square (λ q. q .a) (λ q. q .b) (λ q. q .c) (λ q. q .d) (mixing
 abbrev pub rounds : List ℕ → List ℕ → List ℕ
 rounds m v = iterate (round m) 12 v
 
--- the vector at the start: the chain value and the initialization vector, with the byte count t in two words and, for the last
--- block, all bits of one word inverted
+-- the vector at the start: the chain value and the initialization vector, with the byte count t in two words and, for
+-- the last block, all bits of one word inverted
 unfoldable pub vector : List ℕ → ℕ → Bool → List ℕ
 vector h t last =
     h ++ (getD iv 0 0 ∷ getD iv 1 0 ∷ getD iv 2 0 ∷ getD iv 3 0

@@ -7,7 +7,8 @@ use lib.ListN.{length}
 use Rattle.answers.specs.Answers.{Row, Answer, answered, answer}
 use Rattle.blake.specs.Blake.{digest}
 
--- of the lengths: 1 "key has a wrong length", 4 "text or block length not allowed", 6 "room too short (digest: not 1 to 64)"
+-- of the lengths: 1 "key has a wrong length", 4 "text or block length not allowed", 6 "room too short (digest: not 1 to
+-- 64)"
 abbrev pub rows : ℕ → ℕ → ℕ → List Row
 rows key text room =
     record { applies = ltb 64 key; number = 1 }

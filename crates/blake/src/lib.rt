@@ -12,7 +12,8 @@ ghost use Rattle.words.specs.Block.{part};
 ghost use Rattle.words.specs.Digits.{rotr};
 ghost use Rattle.answers.specs.Answers.{numberOf};
 ghost use Rattle.words.specs.Words.{words, unwords};
-ghost use Rattle.blake.specs.Blake.{sigmaTable, sigma, mixed, wordAt, mixing, round, rounds, vector, folded, compress, padded, startChain, absorbed, hashed};
+ghost use Rattle.blake.specs.Blake.{sigmaTable, sigma, mixed, wordAt, mixing, round, rounds, vector, folded};
+ghost use Rattle.blake.specs.Blake.{compress, padded, startChain, absorbed, hashed};
 ghost use Rattle.blake.specs.Entry.{rows, Digesting};
 
 mod tables;

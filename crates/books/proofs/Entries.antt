@@ -4,7 +4,8 @@ use mathlib.Core.Logic.{⊎-elim}
 use mathlib.Core.Bool.{true, and-eq-true-iff}
 use mathlib.Core.List.{List}
 use Prim.Native.Nat.{ℕ, zero, suc, _+_, _*_, _<_}
-use native.Mathlib.Nat.{add-zero, add-suc, suc-add, zero-add, lt-trans, ne-of-lt, eq-or-lt-of-le, not-suc-le-zero, le-of-suc-le-suc, zero-lt-suc}
+use native.Mathlib.Nat.{add-zero, add-suc, suc-add, zero-add, lt-trans, ne-of-lt, eq-or-lt-of-le, not-suc-le-zero}
+use native.Mathlib.Nat.{le-of-suc-le-suc, zero-lt-suc}
 use native.Mathlib.Decide.{ℕ-discrete}
 use native.Mathlib.Omega.{arith}
 use borrow.Author.Tests.{ltb-true, eq-eqb, ne-eqb, lt-ltb}
@@ -45,29 +46,36 @@ module _ (f : ℕ → ℕ) where
   next-rise i zero k e h = absurd (not-suc-le-zero h)
   next-rise i (suc zero) k e h = absurd (omega arith)
   next-rise i (suc (suc n)) zero e h =
-      let l = ltb-true (f i) (f (suc i)) (and-eq-true-iff (ltb (f i) (f (suc i))) (rising (tab f (suc i) (suc n))) .0 e .0) in
+      let l = ltb-true (f i) (f (suc i)) (and-eq-true-iff (ltb (f i) (f (suc i))) (rising (tab f (suc i) (suc n))) .0
+      e .0) in
       rw (add-suc, add-zero) l
   next-rise i (suc (suc n)) (suc k) e h =
-      let l = next-rise (suc i) (suc n) k (and-eq-true-iff (ltb (f i) (f (suc i))) (rising (tab f (suc i) (suc n))) .0 e .1) (le-of-suc-le-suc h) in
+      let l = next-rise (suc i) (suc n) k (and-eq-true-iff (ltb (f i) (f (suc i))) (rising (tab f (suc i) (suc n))) .0
+      e .1) (le-of-suc-le-suc h) in
       rw (add-suc i (suc k), add-suc i k, ← suc-add i k) (rw (add-suc (suc i) k) at l)
 
   all-rise : (n : ℕ) → rising (tab f 0 n) ≡ true → (k j : ℕ) → j < k → k < n → f j < f k
   all-rise n e zero j h l = absurd (not-suc-le-zero h)
   all-rise n e (suc k) j h l =
       let s : f k < f (suc k) = rw (zero-add, zero-add) at (next-rise 0 n k e l) in
-      ⊎-elim (λ (q : j ≡ k). subst (λ (x : ℕ). f x < f (suc k)) (sym q) s) (λ (q : j < k). lt-trans (all-rise n e k j q (omega arith)) s) (eq-or-lt-of-le (le-of-suc-le-suc h))
+      ⊎-elim (λ (q : j ≡ k). subst (λ (x : ℕ). f x < f (suc k)) (sym q) s)
+      (λ (q : j < k). lt-trans (all-rise n e k j q (omega arith)) s) (eq-or-lt-of-le (le-of-suc-le-suc h))
 
 module _ (c : ℕ) (book : List ℕ) where
   -- the key that is found is that of an entry with the class
   pub entry-class : holds c book ≡ true → class book (entry c book) ≡ c
-  entry-class h = sym (ap (class book) (zero-add (entry c book))) ∙ at-place (class book) c 0 (count book) (ltb-true (entry c book) (count book) h)
+  entry-class h =
+      sym (ap (class book) (zero-add (entry c book)))
+      ∙ at-place (class book) c 0 (count book) (ltb-true (entry c book) (count book) h)
 
   -- each entry with the class is the one that is found
-  pub entry-found : wellFormed book ≡ true → (i : ℕ) → i < count book → class book i ≡ c → (entry c book ≡ i) × (holds c book ≡ true)
+  pub entry-found : wellFormed book ≡ true → (i : ℕ) → i < count book → class book i ≡ c
+      → (entry c book ≡ i) × (holds c book ≡ true)
   unfolding wellFormed
   entry-found w i h e =
       let r = and-eq-true-iff (eqb (length book) (2 + 18 * count book)) (rising (classes book)) .0 w .1 in
       let p : entry c book ≡ i =
       place-first (class book) c 0 (count book) i h (ap (class book) (zero-add i) ∙ e)
-      (λ j l q. ne-of-lt (all-rise (class book) (count book) r i j l h) (sym (ap (class book) (zero-add j)) ∙ q ∙ sym e)) in
+      (λ j l q. ne-of-lt (all-rise (class book) (count book) r i j l h)
+      (sym (ap (class book) (zero-add j)) ∙ q ∙ sym e)) in
       (p, lt-ltb (entry c book) (count book) (omega (arith, p)))

@@ -51,6 +51,7 @@ unfolding number tab count class rising wellFormed placeOf finding
 lookups = refl
 
 -- a key of last term's book lies there, 22 bytes on from where the book starts
-pub part : handedBack (record { start = (3, 1000); bytes = one }) (record { start = (3, 2000); bytes = two 256 }) 256 ≡ record { start = (3, 2022); bytes = replicate 16 0xB2 }
+pub part : handedBack (record { start = (3, 1000); bytes = one }) (record { start = (3, 2000); bytes = two 256 }) 256
+    ≡ record { start = (3, 2022); bytes = replicate 16 0xB2 }
 unfolding number tab count class rising wellFormed placeOf finding handedBack
 part = refl

@@ -11,7 +11,9 @@ use Rattle.books.specs.Books.{keyPlace, wellFormed, entry, holds}
 
 -- 10 "either key book badly formed"
 abbrev pub badlyFormed : List ℕ → List ℕ → List Row
-badlyFormed thisTerm lastTerm = record { applies = not (wellFormed thisTerm); number = 10 } ∷ record { applies = not (wellFormed lastTerm); number = 10 } ∷ []
+badlyFormed thisTerm lastTerm =
+    record { applies = not (wellFormed thisTerm); number = 10 }
+    ∷ record { applies = not (wellFormed lastTerm); number = 10 } ∷ []
 
 -- 11 "neither book has an entry for the class"
 abbrev pub noEntry : List ℕ → List ℕ → ℕ → List Row
@@ -29,14 +31,17 @@ nowhere = record { book = 0; offset = 0 }
 -- "this term's book wins"
 abbrev pub placed : List ℕ → List ℕ → ℕ → Place
 placed thisTerm lastTerm c =
-    cond (holds c thisTerm) (record { book = 0; offset = keyPlace (entry c thisTerm) }) (record { book = 1; offset = keyPlace (entry c lastTerm) })
+    cond (holds c thisTerm) (record { book = 0; offset = keyPlace (entry c thisTerm) })
+    (record { book = 1; offset = keyPlace (entry c lastTerm) })
 
 -- the number that is answered, and where the key lies then
 unfoldable pub finding : List ℕ → List ℕ → ℕ → Answer Place
-finding thisTerm lastTerm c = answer (badlyFormed thisTerm lastTerm ++ noEntry thisTerm lastTerm c) (placed thisTerm lastTerm c) nowhere
+finding thisTerm lastTerm c =
+    answer (badlyFormed thisTerm lastTerm ++ noEntry thisTerm lastTerm c) (placed thisTerm lastTerm c) nowhere
 
 abbrev pub Finding : ℕ → List ℕ → List ℕ → ℕ → ℕ → ℕ → Type 0
-Finding r thisTerm lastTerm c book offset = answered r (record { book = book; offset = offset }) ≡ finding thisTerm lastTerm c
+Finding r thisTerm lastTerm c book offset =
+    answered r (record { book = book; offset = offset }) ≡ finding thisTerm lastTerm c
 
 -- ---- "The key handed back is that part of the book itself;"
 

@@ -25,8 +25,8 @@ pub fn number(this_term: &[u8], last_term: &[u8], class: u16) -> u32
     f.number
 }
 
-// The key's 16 bytes where they lie in the book that `find` names, themselves and no copy; where it is refused, an empty
-// part at the start of this term's book.
+// The key's 16 bytes where they lie in the book that `find` names, themselves and no copy; where it is refused, an
+// empty part at the start of this term's book.
 pub fn part<'a>(this_term: &'a [u8], last_term: &'a [u8], class: u16) -> &'a [u8]
     ensures { λ r. ⌜ HandedBack r («this_term» .entry) («last_term» .entry) class ⌝ }
 {
@@ -49,10 +49,11 @@ fn length_of(number: u32) -> usize
     if number == 0 { 16 } else { 0 }
 }
 
-// Where the key of the class lies: the book and the offset in it; where it is refused, book 0 and offset 0. Both books are
-// judged before either is searched.
+// Where the key of the class lies: the book and the offset in it; where it is refused, book 0 and offset 0. Both books
+// are judged before either is searched.
 pub fn find(this_term: &[u8], last_term: &[u8], class: u16) -> Found
-    ensures { λ r. ⌜ Finding (r .number) (now («this_term» .entry)) (now («last_term» .entry)) class (r .book) (r .offset) ⌝ }
+    ensures { λ r. ⌜ Finding (r .number) (now («this_term» .entry)) (now («last_term» .entry)) class (r .book)
+        (r .offset) ⌝ }
 {
     let refused = row(
         !well_formed(this_term),
@@ -72,7 +73,8 @@ pub fn find(this_term: &[u8], last_term: &[u8], class: u16) -> Found
 // The key of the class in one book.
 fn key_in(which: u32, book: &[u8], class: u16) -> Found
     ensures { λ r. ⌜ answered (r .number) (record { book = r .book; offset = r .offset })
-        ≡ cond (holds class (now (book .entry))) (answered 0 (record { book = which; offset = keyPlace (entry class (now (book .entry))) })) (answered 11 nowhere) ⌝ }
+        ≡ cond (holds class (now (book .entry))) (answered 0
+        (record { book = which; offset = keyPlace (entry class (now (book .entry))) })) (answered 11 nowhere) ⌝ }
 {
     let i = entry_of(book, class);
     if i < count_of(book) {

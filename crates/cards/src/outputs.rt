@@ -11,8 +11,8 @@ use crate::text::Text;
 use libc::STDOUT_FILENO;
 ghost use Prim.Native.Nat.{_≤_, _<_};
 
-// Takes the output's name, so that no file is replaced unless --force asks for it, and writes the bytes. Where something
-// was refused before, that is handed on and nothing is done, here and in claim and write.
+// Takes the output's name, so that no file is replaced unless --force asks for it, and writes the bytes. Where
+// something was refused before, that is handed on and nothing is done, here and in claim and write.
 pub(crate) fn finish(before: Refusal, o: Options, bytes: &[u8]) -> Refusal {
     write(claim(before, o), o, bytes)
 }
@@ -61,8 +61,8 @@ fn replaceable(o: Options, name: Text) -> Refusal {
     refusal::about(o, options::OUT, refusal::NOT_WRITTEN, why)
 }
 
-// Why a file is not replaced. A drawer never is, since its numbers could be drawn again; and what is no file, as a device
-// or a pipe, cannot be cut to the length that it has.
+// Why a file is not replaced. A drawer never is, since its numbers could be drawn again; and what is no file, as a
+// device or a pipe, cannot be cut to the length that it has.
 fn kept_for(fd: i32) -> usize {
     if libc::ftruncate(fd, libc::lseek(fd, 0, libc::SEEK_END)) != 0 {
         return refusal::SPECIAL;

@@ -47,7 +47,8 @@ pub block-first : (s t : List ℕ) → sets (replicate 64 0) (4 * 0) (unwords 4 
 block-first s t =
     let l = length-written s t in
     let k : 64 ≤ length (unwords 4 (sums s t)) = omega arith in
-    words-first 4 (replicate 64 0) (sums s t) ∙ sets-whole (replicate 64 0) (unwords 4 (sums s t)) k ∙ take-all 64 (unwords 4 (sums s t)) (omega arith)
+    words-first 4 (replicate 64 0) (sums s t) ∙ sets-whole (replicate 64 0) (unwords 4 (sums s t)) k
+    ∙ take-all 64 (unwords 4 (sums s t)) (omega arith)
 
 pub block-is : (s t out : List ℕ) → t ≡ rounds s → out ≡ unwords 4 (sums s t) → out ≡ blockFrom s
 unfolding blockFrom

@@ -19,22 +19,28 @@ use Rattle.chacha.proofs.Rounds.{length-block}
 
 -- ---- the loop
 
-pub stream-first : (key nonce text : List ℕ) (counter n : ℕ) → n ≡ blocks (length text) → plusAt 0 text (keyStream key nonce counter n) ≡ stream key nonce counter text
+pub stream-first : (key nonce text : List ℕ) (counter n : ℕ) → n ≡ blocks (length text)
+    → plusAt 0 text (keyStream key nonce counter n) ≡ stream key nonce counter text
 unfolding stream
-stream-first key nonce text counter n e = plusAt-first text (keyStream key nonce counter n) ∙ ap (λ (m : ℕ). plus text (keyStream key nonce counter m)) e
+stream-first key nonce text counter n e =
+    plusAt-first text (keyStream key nonce counter n) ∙ ap (λ (m : ℕ). plus text (keyStream key nonce counter m)) e
 
-pub stream-next : (key nonce text text′ k l : List ℕ) (c i m n : ℕ) → k ≡ block key nonce c → text′ ≡ plusAt i text (part k 0 64) → m ≡ suc n
+pub stream-next : (key nonce text text′ k l : List ℕ) (c i m n : ℕ) → k ≡ block key nonce c
+    → text′ ≡ plusAt i text (part k 0 64) → m ≡ suc n
     → plusAt i text (keyStream key nonce c m) ≡ l → plusAt (i + 64) text′ (keyStream key nonce (c + 1) n) ≡ l
 unfolding keyStream
 stream-next key nonce text text′ k l c i m n ek et em e =
     let b = block key nonce c in
     let lb : length b ≡ 64 = length-block (startState key nonce c) in
     let eb : part k 0 64 ≡ b = ap (λ (x : List ℕ). part x 0 64) ek ∙ take-all 64 b (omega arith) in
-    let next : plusAt (i + 64) (plusAt i text b) (keyStream key nonce (suc c) n) ≡ plusAt i text (b ++ keyStream key nonce (suc c) n) =
-    ap (λ (x : ℕ). plusAt (i + x) (plusAt i text b) (keyStream key nonce (suc c) n)) (sym lb) ∙ plusAt-append i text b (keyStream key nonce (suc c) n) in
+    let next : plusAt (i + 64) (plusAt i text b) (keyStream key nonce (suc c) n)
+    ≡ plusAt i text (b ++ keyStream key nonce (suc c) n) =
+    ap (λ (x : ℕ). plusAt (i + x) (plusAt i text b) (keyStream key nonce (suc c) n)) (sym lb)
+    ∙ plusAt-append i text b (keyStream key nonce (suc c) n) in
     rw (et, eb, add-one) (next ∙ rw em at e)
 
-pub stream-end : (key nonce text l : List ℕ) (c i n : ℕ) → n ≡ 0 → plusAt i text (keyStream key nonce c n) ≡ l → text ≡ l
+pub stream-end : (key nonce text l : List ℕ) (c i n : ℕ) → n ≡ 0 → plusAt i text (keyStream key nonce c n) ≡ l
+    → text ≡ l
 unfolding keyStream
 stream-end key nonce text l c i n en e = sym (plusAt-none i text) ∙ rw en at e
 
@@ -45,11 +51,13 @@ unfolding stream
 length-stream key nonce text counter = length-plus text (keyStream key nonce counter (blocks (length text)))
 
 -- a stream applied twice gives the text back
-pub stream-twice : (key nonce text : List ℕ) (counter : ℕ) → stream key nonce counter (stream key nonce counter text) ≡ text
+pub stream-twice : (key nonce text : List ℕ) (counter : ℕ)
+    → stream key nonce counter (stream key nonce counter text) ≡ text
 unfolding stream
 stream-twice key nonce text counter =
     let ks = keyStream key nonce counter (blocks (length text)) in
-    ap (λ (n : ℕ). plus (plus text ks) (keyStream key nonce counter (blocks n))) (length-plus text ks) ∙ plus-twice text ks
+    ap (λ (n : ℕ). plus (plus text ks) (keyStream key nonce counter (blocks n))) (length-plus text ks)
+    ∙ plus-twice text ks
 
 module _ (key nonce : List ℕ) where
   length-keyStream : (counter n : ℕ) → length (keyStream key nonce counter n) ≡ 64 * n
@@ -58,7 +66,8 @@ module _ (key nonce : List ℕ) where
   length-keyStream counter (suc n) =
       rw (length-append, length-block (startState key nonce counter), length-keyStream (suc counter) n) (omega arith)
 
-  keyStream-append : (counter m n : ℕ) → keyStream key nonce counter (m + n) ≡ keyStream key nonce counter m ++ keyStream key nonce (counter + m) n
+  keyStream-append : (counter m n : ℕ) → keyStream key nonce counter (m + n)
+      ≡ keyStream key nonce counter m ++ keyStream key nonce (counter + m) n
   unfolding keyStream
   keyStream-append counter zero n = rw (zero-add, add-zero)
   keyStream-append counter (suc m) n =
@@ -72,16 +81,19 @@ module _ (key nonce : List ℕ) where
       let ea : blocks (length a) ≡ m = omega arith in
       let eab : blocks (length (a ++ b)) ≡ m + blocks (length b) = rw length-append (omega arith) in
       rw (eab, ea, keyStream-append counter m (blocks (length b)))
-      (plus-append a b (keyStream key nonce counter m) (keyStream key nonce (counter + m) (blocks (length b))) (e ∙ sym (length-keyStream counter m)))
+      (plus-append a b (keyStream key nonce counter m) (keyStream key nonce (counter + m) (blocks (length b)))
+      (e ∙ sym (length-keyStream counter m)))
 
 -- ---- the entry point
 
 -- called twice it answers the same number and gives the text back, refused or not
 pub streaming-twice : (key nonce text : List ℕ) (counter : ℕ)
-    → streaming key nonce counter (streaming key nonce counter text .outcome) ≡ answered (streaming key nonce counter text .number) text
+    → streaming key nonce counter (streaming key nonce counter text .outcome)
+    ≡ answered (streaming key nonce counter text .number) text
 unfolding streaming
 streaming-twice key nonce text counter =
-    undone (λ t. rows (length key) (length nonce) counter (length t)) (stream key nonce counter) (stream key nonce counter) text
+    undone (λ t. rows (length key) (length nonce) counter (length t)) (stream key nonce counter)
+    (stream key nonce counter) text
     (λ c. rw (length-stream key nonce text counter)) (λ c. stream-twice key nonce text counter)
 
 -- what is not refused
@@ -93,28 +105,40 @@ pub record Allowed (key nonce start text : ℕ) : Type 0 where
 
 pub allowed : (key nonce start text : ℕ) → Clear (rows key nonce start text) → Allowed key nonce start text
 allowed key nonce start text (k, (n, (t, (b, none)))) =
-    record { key-32 = eqb-true _ _ (not-false _ k); nonce-12 = eqb-true _ _ (not-false _ n); text-most = ltb-false _ _ t; blocks-most = ltb-false _ _ b }
+    record {
+      key-32 = eqb-true _ _ (not-false _ k);
+      nonce-12 = eqb-true _ _ (not-false _ n);
+      text-most = ltb-false _ _ t;
+      blocks-most = ltb-false _ _ b;
+    }
 
-pub streaming-done : (key nonce text : List ℕ) (counter : ℕ) → length key ≡ 32 → length nonce ≡ 12 → length text ≤ 1048576 → counter + blocks (length text) ≤ 2 ^ 32
+pub streaming-done : (key nonce text : List ℕ) (counter : ℕ) → length key ≡ 32 → length nonce ≡ 12
+    → length text ≤ 1048576 → counter + blocks (length text) ≤ 2 ^ 32
     → streaming key nonce counter text ≡ answered 0 (stream key nonce counter text)
 unfolding streaming
 streaming-done key nonce text counter ek en ht hb = simp (eq-eqb _ _ ek, eq-eqb _ _ en, le-ltb _ _ ht, le-ltb _ _ hb)
 
 -- a call that is done, cut after m whole blocks: both calls are done, and they leave the same bytes
-pub streaming-cut : (key nonce a b : List ℕ) (counter m : ℕ) → length a ≡ 64 * m → streaming key nonce counter (a ++ b) .number ≡ 0
+pub streaming-cut : (key nonce a b : List ℕ) (counter m : ℕ) → length a ≡ 64 * m
+    → streaming key nonce counter (a ++ b) .number ≡ 0
     → (streaming key nonce counter a .number ≡ 0) × (streaming key nonce (counter + m) b .number ≡ 0)
-    × (streaming key nonce counter (a ++ b) .outcome ≡ streaming key nonce counter a .outcome ++ streaming key nonce (counter + m) b .outcome)
+    × (streaming key nonce counter (a ++ b) .outcome
+    ≡ streaming key nonce counter a .outcome ++ streaming key nonce (counter + m) b .outcome)
 unfolding streaming
 streaming-cut key nonce a b counter m e done =
-    let d = answer-done (stream key nonce counter (a ++ b)) (a ++ b) (rows (length key) (length nonce) counter (length (a ++ b))) tt done in
+    let d = answer-done (stream key nonce counter (a ++ b)) (a ++ b)
+    (rows (length key) (length nonce) counter (length (a ++ b))) tt done in
     let k = allowed (length key) (length nonce) counter (length (a ++ b)) (d .0) in
     let l = length-append a b in
     let ht = k .text-most in
     let hb = k .blocks-most in
     let whole = streaming-done key nonce (a ++ b) counter (k .key-32) (k .nonce-12) ht hb in
-    let first = streaming-done key nonce a counter (k .key-32) (k .nonce-12) (omega (arith, ht, l)) (omega (arith, hb, l)) in
-    let second = streaming-done key nonce b (counter + m) (k .key-32) (k .nonce-12) (omega (arith, ht, l)) (omega (arith, hb, l, e)) in (
+    let first = streaming-done key nonce a counter (k .key-32) (k .nonce-12) (omega (arith, ht, l))
+    (omega (arith, hb, l)) in
+    let second = streaming-done key nonce b (counter + m) (k .key-32) (k .nonce-12) (omega (arith, ht, l))
+    (omega (arith, hb, l, e)) in (
       ap (λ r. r .number) first,
       ap (λ r. r .number) second,
-      ap (λ r. r .outcome) whole ∙ stream-cut key nonce a b counter m e ∙ sym (ap₂ _++_ (ap (λ r. r .outcome) first) (ap (λ r. r .outcome) second)),
+      ap (λ r. r .outcome) whole ∙ stream-cut key nonce a b counter m e
+          ∙ sym (ap₂ _++_ (ap (λ r. r .outcome) first) (ap (λ r. r .outcome) second)),
     )

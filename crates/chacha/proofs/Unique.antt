@@ -7,11 +7,15 @@ use Rattle.answers.specs.Answers.{applying, smallest}
 use Rattle.answers.proofs.Answers.{same-answer, least-answered}
 use Rattle.chacha.specs.Entry.{rows, streaming, Streaming}
 
-pub stream-unique : (key nonce text : List ℕ) (start : ℕ) {m n : ℕ} {a b : List ℕ} → Streaming m key nonce start text a → Streaming n key nonce start text b
+pub stream-unique : (key nonce text : List ℕ) (start : ℕ) {m n : ℕ} {a b : List ℕ} → Streaming m key nonce start text a
+    → Streaming n key nonce start text b
     → (m ≡ n) × (a ≡ b)
 stream-unique key nonce text start = same-answer
 
 -- the number is the smallest that applies
-pub streaming-least : (key nonce text : List ℕ) (start : ℕ) → streaming key nonce start text .number ≡ smallest (applying (rows (length key) (length nonce) start (length text)))
+pub streaming-least : (key nonce text : List ℕ) (start : ℕ)
+    → streaming key nonce start text .number
+    ≡ smallest (applying (rows (length key) (length nonce) start (length text)))
 unfolding streaming
-streaming-least key nonce text start = least-answered _ _ [] refl (rows (length key) (length nonce) start (length text)) tt
+streaming-least key nonce text start =
+    least-answered _ _ [] refl (rows (length key) (length nonce) start (length text)) tt

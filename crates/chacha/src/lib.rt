@@ -14,7 +14,8 @@ ghost use Rattle.chacha.specs.Entry.{rows, Streaming};
 
 // Adds the key stream, from block `start` on, to text in place. Answers 0, or the refusal.
 pub fn stream(key: &[u8], nonce: &[u8], start: u32, text: &mut [u8]) -> u32
-    ensures { λ r. ⌜ Streaming r (now (key .entry)) (now (nonce .entry)) start (now (text .entry)) (now (text .exit)) ⌝ }
+    ensures { λ r. ⌜ Streaming r (now (key .entry)) (now (nonce .entry)) start (now (text .entry))
+        (now (text .exit)) ⌝ }
 {
     let refused = refusal(key.len(), nonce.len(), start, text.len());
     if refused != 0 {

@@ -27,7 +27,8 @@ pub from-nothing : (d : Decimal) → (d .good ≡ false → d .value ≡ 0) → 
 unfolding from digits behind
 from-nothing d h l = by (d .good) refl
   where
-    by : (t : Bool) → d .good ≡ t → cond (d .good && true && ltb (d .value) (2 ^ 64)) (record { good = true; value = d .value }) none ≡ d
+    by : (t : Bool) → d .good ≡ t → cond (d .good && true && ltb (d .value) (2 ^ 64))
+        (record { good = true; value = d .value }) none ≡ d
     by true e = rw (e, lt-ltb _ _ l)
     by false e = rw e (ap (λ (v : ℕ). record { good = false; value = v }) (sym (h e)))
 
@@ -56,17 +57,24 @@ module _ (d : Decimal) (b : ℕ) (s : List ℕ) where
   pub too-large : 2 ^ 64 ≤ d .value * 10 + (b - 48) → from none s ≡ from d (b ∷ s)
   unfolding from behind
   too-large h =
-      rw (le-ltb (behind (d .value * 10 + (b - 48)) s) (2 ^ 64) (le-trans h (behind-least (d .value * 10 + (b - 48)) s)), and-false (d .good && digits (b ∷ s)))
+      rw (
+        le-ltb (behind (d .value * 10 + (b - 48)) s) (2 ^ 64)
+            (le-trans h (behind-least (d .value * 10 + (b - 48)) s)),
+        and-false (d .good && digits (b ∷ s)),
+      )
 
-  pub one-more : d .good ≡ true → 48 ≤ b → b ≤ 57 → from (record { good = true; value = d .value * 10 + (b - 48) }) s ≡ from d (b ∷ s)
+  pub one-more : d .good ≡ true → 48 ≤ b → b ≤ 57
+      → from (record { good = true; value = d .value * 10 + (b - 48) }) s ≡ from d (b ∷ s)
   unfolding from digits behind
   one-more e l m = rw (e, lt-ltb 47 b (omega arith), lt-ltb b 58 (omega arith))
 
 -- one step of the loop
-pub turn : (word : List ℕ) (i : ℕ) (d d′ : Decimal) → i < length word → ((s : List ℕ) → from d′ s ≡ from d (getD word i 0 ∷ s)) → from d (drop i word) ≡ reading word
+pub turn : (word : List ℕ) (i : ℕ) (d d′ : Decimal) → i < length word
+    → ((s : List ℕ) → from d′ s ≡ from d (getD word i 0 ∷ s)) → from d (drop i word) ≡ reading word
     → from d′ (drop (i + 1) word) ≡ reading word
 turn word i d d′ h e inv = rw add-one (e (drop (suc i) word) ∙ ap (from d) (sym (drop-cons word i 0 h)) ∙ inv)
 
 -- after it
-pub end : (word : List ℕ) (i : ℕ) (d : Decimal) → length word ≤ i → from d [] ≡ d → from d (drop i word) ≡ reading word → d ≡ reading word
+pub end : (word : List ℕ) (i : ℕ) (d : Decimal) → length word ≤ i → from d [] ≡ d → from d (drop i word) ≡ reading word
+    → d ≡ reading word
 end word i d h e inv = sym e ∙ ap (from d) (sym (drop-of-length-le word {i = i} h)) ∙ inv

@@ -20,7 +20,9 @@ none = record { good = false; value = 0 }
 
 -- d with the word s behind it: a number, where d was one, s is digits and it is below 2^64
 unfoldable pub from : Decimal → List ℕ → Decimal
-from d s = cond (d .good && digits s && ltb (behind (d .value) s) (2 ^ 64)) (record { good = true; value = behind (d .value) s }) none
+from d s =
+    cond (d .good && digits s && ltb (behind (d .value) s) (2 ^ 64))
+    (record { good = true; value = behind (d .value) s }) none
 
 -- a number is one digit or more
 unfoldable pub reading : List ℕ → Decimal

@@ -22,19 +22,22 @@ abbrev from : ℕ → ℕ → ℕ → List (List ℕ)
 from reader count n = tab (λ c. nonce (started reader c)) count n
 
 -- the numbers at the front of what a draw writes are those of the counts that it takes
-written-numbers : (u : Use) (d : Drawer) → tab (λ i. part (written u d) (12 * i) 12) 0 (counts u) ≡ from (d .reader) (d .count) (counts u)
+written-numbers : (u : Use) (d : Drawer) → tab (λ i. part (written u d) (12 * i) 12) 0 (counts u)
+    ≡ from (d .reader) (d .count) (counts u)
 unfolding tab nonce bytes
 written-numbers forNonce d = refl
 written-numbers forIv d = refl
 
 -- the first of several draws
 module _ (u : Use) (us : List Use) (d : Drawer) where
-  refused : ltb (remaining d) (counts u) ≡ true → (handedOut (u ∷ us) d ≡ handedOut us d) × (after (u ∷ us) d ≡ after us d)
+  refused : ltb (remaining d) (counts u) ≡ true
+      → (handedOut (u ∷ us) d ≡ handedOut us d) × (after (u ∷ us) d ≡ after us d)
   unfolding drawing handedOut after
   refused e = rw e (refl, refl)
 
   given : ltb (remaining d) (counts u) ≡ false
-      → (handedOut (u ∷ us) d ≡ from (d .reader) (d .count) (counts u) ++ handedOut us (moved (counts u) d)) × (after (u ∷ us) d ≡ after us (moved (counts u) d))
+      → (handedOut (u ∷ us) d ≡ from (d .reader) (d .count) (counts u) ++ handedOut us (moved (counts u) d))
+      × (after (u ∷ us) d ≡ after us (moved (counts u) d))
   unfolding drawing handedOut after
   given e = rw e (ap (λ (l : List (List ℕ)). l ++ handedOut us (moved (counts u) d)) (written-numbers u d), refl)
 
@@ -54,7 +57,8 @@ unfolding tab handedOut after
 counted [] d = rw add-zero (refl, refl, omega arith)
 counted (u ∷ us) d = by (ltb (remaining d) (counts u)) refl (counted us d) (counted us (moved (counts u) d))
   where
-    by : (t : Bool) → ltb (remaining d) (counts u) ≡ t → Counted us d → Counted us (moved (counts u) d) → Counted (u ∷ us) d
+    by : (t : Bool) → ltb (remaining d) (counts u) ≡ t → Counted us d → Counted us (moved (counts u) d)
+        → Counted (u ∷ us) d
     by true e k m = rw e (refused u us d e .0 ∙ k .0, refused u us d e .1 ∙ k .1, k .2)
     by false e k m =
         let c = counts u in
@@ -63,7 +67,8 @@ counted (u ∷ us) d = by (ltb (remaining d) (counts u)) refl (counted us d) (co
         let n = taken us (remaining (moved c d)) in
         let s : d .count + (c + n) ≡ d .count + c + n = omega arith in
         rw (e, l, s) (
-          given u us d e .0 ∙ ap (λ (r : List (List ℕ)). from (d .reader) (d .count) c ++ r) (m .0) ∙ sym (tab-append (λ i. nonce (started (d .reader) i)) (d .count) c n),
+          given u us d e .0 ∙ ap (λ (r : List (List ℕ)). from (d .reader) (d .count) c ++ r) (m .0)
+              ∙ sym (tab-append (λ i. nonce (started (d .reader) i)) (d .count) c n),
           given u us d e .1 ∙ m .1,
           omega (arith, m .2),
         )
@@ -78,23 +83,30 @@ nonce-count d h = number-bytes 8 (d .count) h
 module _ (d : Drawer) (h : d .count < 2 ^ 64) (us : List Use) where
   -- how many numbers are handed out: one for each count that is taken
   handed-length : length (handedOut us d) ≡ taken us (remaining d)
-  handed-length = ap length (counted us d .0) ∙ length-tab (λ c. nonce (started (d .reader) c)) (d .count) (taken us (remaining d))
+  handed-length =
+      ap length (counted us d .0) ∙ length-tab (λ c. nonce (started (d .reader) c)) (d .count) (taken us (remaining d))
 
   -- "its count after any draws is its start plus the number of draws given"
   pub count-after : after us d ≡ started (d .reader) (d .count + length (handedOut us d))
   count-after = counted us d .1 ∙ ap (λ (n : ℕ). started (d .reader) (d .count + n)) (sym handed-length)
 
-  handed-at : (i : ℕ) → i < length (handedOut us d) → getD (handedOut us d) i [] ≡ nonce (started (d .reader) (d .count + i))
+  handed-at : (i : ℕ) → i < length (handedOut us d)
+      → getD (handedOut us d) i [] ≡ nonce (started (d .reader) (d .count + i))
   handed-at i l =
       ap (λ (s : List (List ℕ)). getD s i []) (counted us d .0)
-      ∙ tab-from (λ c. nonce (started (d .reader) c)) [] (d .count) (taken us (remaining d)) i (omega (arith, handed-length))
+      ∙ tab-from (λ c. nonce (started (d .reader) c)) [] (d .count) (taken us (remaining d)) i
+      (omega (arith, handed-length))
 
   -- no two of them are equal
-  pub never-repeat : (i j : ℕ) → i < length (handedOut us d) → j < length (handedOut us d) → getD (handedOut us d) i [] ≡ getD (handedOut us d) j [] → i ≡ j
+  pub never-repeat : (i j : ℕ) → i < length (handedOut us d) → j < length (handedOut us d)
+      → getD (handedOut us d) i [] ≡ getD (handedOut us d) j [] → i ≡ j
   never-repeat i j li lj e =
-      let count-at : (k : ℕ) → k < length (handedOut us d) → number (drop 4 (getD (handedOut us d) k [])) ≡ d .count + k =
-      λ k l. ap (λ (s : List ℕ). number (drop 4 s)) (handed-at k l) ∙ nonce-count (started (d .reader) (d .count + k)) (omega (arith, handed-length, counted us d .2)) in
-      let same : d .count + i ≡ d .count + j = sym (count-at i li) ∙ ap (λ (s : List ℕ). number (drop 4 s)) e ∙ count-at j lj in
+      let count-at : (k : ℕ) → k < length (handedOut us d)
+      → number (drop 4 (getD (handedOut us d) k [])) ≡ d .count + k =
+      λ k l. ap (λ (s : List ℕ). number (drop 4 s)) (handed-at k l)
+      ∙ nonce-count (started (d .reader) (d .count + k)) (omega (arith, handed-length, counted us d .2)) in
+      let same : d .count + i ≡ d .count + j =
+      sym (count-at i li) ∙ ap (λ (s : List ℕ). number (drop 4 s)) e ∙ count-at j lj in
       omega arith
 
 -- while each use takes one count, there are as many as draws, as long as any are left
@@ -111,5 +123,6 @@ taken-each (u ∷ us) n = rw (one u) (by (ltb n 1) refl (taken-each us n) (taken
     by true e k m = omega (arith, ltb-true n 1 e)
     by false e k m = omega (arith, ltb-false n 1 e)
 
-pub handed-out : (d : Drawer) → d .count < 2 ^ 64 → (us : List Use) → length (handedOut us d) ≡ min (length us) (2 ^ 64 - 1 - d .count)
+pub handed-out : (d : Drawer) → d .count < 2 ^ 64 → (us : List Use)
+    → length (handedOut us d) ≡ min (length us) (2 ^ 64 - 1 - d .count)
 handed-out d h us = handed-length d h us ∙ taken-each us (remaining d)

@@ -14,7 +14,8 @@ start-unique reader count = same
 pub next-nonce-unique : (d : Drawer) {a b : List ℕ} → a ≡ nonce d → b ≡ nonce d → a ≡ b
 next-nonce-unique d = same
 
-pub draw-unique : (d : Drawer) {m n : ℕ} {a b : List ℕ} {e f : Drawer} → Drawing forNonce m d a e → Drawing forNonce n d b f
+pub draw-unique : (d : Drawer) {m n : ℕ} {a b : List ℕ} {e f : Drawer} → Drawing forNonce m d a e
+    → Drawing forNonce n d b f
     → (m ≡ n) × (_≡_ {A = Handed} (record { bytes = a; next = e }) (record { bytes = b; next = f }))
 draw-unique d = same-answer
 

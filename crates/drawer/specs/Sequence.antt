@@ -10,8 +10,8 @@ use Rattle.answers.specs.Answers.{Answer}
 use Rattle.drawer.specs.declared.Drawer.{Drawer}
 use Rattle.drawer.specs.Drawer.{Use, counts, Handed, drawing}
 
--- the numbers of 12 bytes that an answer hands out, one for each count, from the front: "a refused draw hands out no number, and its
--- zero bytes don't count as one."
+-- the numbers of 12 bytes that an answer hands out, one for each count, from the front: "a refused draw hands out no
+-- number, and its zero bytes don't count as one."
 abbrev pub numbers : Use → Answer Handed → List (List ℕ)
 numbers u a = cond (eqb (a .number) 0) (tab (λ i. part (a .outcome .bytes) (12 * i) 12) 0 (counts u)) []
 

@@ -37,8 +37,8 @@ pub fn start(reader: u32, count: u64) -> Drawer
     }
 }
 
-// A nonce: the bytes of the reader number and the count, and the next drawer, whose count is greater by one. Whoever goes on
-// drawing from d, and not from the next drawer, draws the same nonce again.
+// A nonce: the bytes of the reader number and the count, and the next drawer, whose count is greater by one. Whoever
+// goes on drawing from d, and not from the next drawer, draws the same nonce again.
 pub fn draw(d: Drawer) -> Drawn
     ensures { λ r. ⌜ Drawing forNonce (r .number) d (r .bytes) (r .next) ⌝ }
 {
@@ -86,8 +86,8 @@ fn refusal(n: u64, d: Drawer) -> u32
 // The bytes of a nonce.
 pub type Nonce = [u8; 12];
 
-// The nonce that a drawer draws next, unless it is spent: its reader number in four bytes, then its count in eight, both
-// little-endian.
+// The nonce that a drawer draws next, unless it is spent: its reader number in four bytes, then its count in eight,
+// both little-endian.
 pub fn next_nonce(d: Drawer) -> Nonce
     ensures { λ r. ⌜ r ≡ nonce d ⌝ }
 {

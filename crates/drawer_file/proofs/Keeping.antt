@@ -27,18 +27,22 @@ use Rattle.drawer_file.specs.DrawerFile.{keeping, drawerIn, recalling}
 
 -- ---- what is written
 
-pub kept-is : (d : Drawer) (n : ℕ) (st dg f f′ : List ℕ) → st ≡ nonce d → answered n dg ≡ digesting [] st (replicate 32 0)
+pub kept-is : (d : Drawer) (n : ℕ) (st dg f f′ : List ℕ) → st ≡ nonce d
+    → answered n dg ≡ digesting [] st (replicate 32 0)
     → f ≡ plusAt 0 (replicate 44 0) (part st 0 12) → f′ ≡ plusAt 12 f (part dg 0 32) → f′ ≡ keeping d
 unfolding keeping
 kept-is d n st dg f f′ es ed e e′ =
     let ls : length st ≡ 12 = ap length es ∙ length-nonce d in
     let D = digest [] st 32 in
-    let ed′ : dg ≡ D = ap (λ (a : Answer (List ℕ)). a .outcome) (ed ∙ digesting-done [] st (replicate 32 0) (lit≤ tt) (omega arith) (λ z. absurd (omega (arith, z))) (lit≤ tt)) in
+    let ed′ : dg ≡ D = ap (λ (a : Answer (List ℕ)). a .outcome)
+    (ed ∙ digesting-done [] st (replicate 32 0) (lit≤ tt) (omega arith) (λ z. absurd (omega (arith, z)))
+    (lit≤ tt)) in
     let ld : length dg ≡ 32 = ap length ed′ ∙ length-digest [] st 32 (lit≤ tt) in
     let p : part st 0 12 ≡ st = take-all 12 st (omega arith) in
     let q : part dg 0 32 ≡ dg = take-all 32 dg (omega arith) in
     let l : length (st ++ dg) ≡ 44 = length-append st dg ∙ ap₂ _+_ ls ld in
-    let g : f′ ≡ plusAt 12 (plusAt 0 (replicate 44 0) st) dg = e′ ∙ ap₂ (plusAt 12) (e ∙ ap (plusAt 0 (replicate 44 0)) p) q in
+    let g : f′ ≡ plusAt 12 (plusAt 0 (replicate 44 0) st) dg =
+    e′ ∙ ap₂ (plusAt 12) (e ∙ ap (plusAt 0 (replicate 44 0)) p) q in
     let h : plusAt 12 (plusAt 0 (replicate 44 0) st) dg ≡ st ++ dg =
     ap (λ (n : ℕ). plusAt n (plusAt 0 (replicate 44 0) st) dg) (sym (zero-add (length st) ∙ ls))
     ∙ plusAt-append 0 (replicate 44 0) st dg ∙ plusAt-first (replicate 44 0) (st ++ dg) ∙ plus-zeros 44 (st ++ dg) l in
@@ -47,9 +51,11 @@ kept-is d n st dg f f′ es ed e e′ =
 -- ---- what is read
 
 module _ (s : List ℕ) (h : Bytes s) where
-  pub drawer-is : (b b′ : Block) → b ≡ halves (loaded s 0 4) → b′ ≡ halves (loaded s 4 8) → started (b .lo % 4294967296) (b′ .lo) ≡ drawerIn s
+  pub drawer-is : (b b′ : Block) → b ≡ halves (loaded s 0 4) → b′ ≡ halves (loaded s 4 8)
+      → started (b .lo % 4294967296) (b′ .lo) ≡ drawerIn s
   drawer-is b b′ e e′ =
-      ap₂ started (ap (λ (x : ℕ). x % 4294967296) (loaded-word s h 0 4 e (lit≤ tt)) ∙ mod-eq-of-lt (word-lt s h 0 4)) (loaded-word s h 4 8 e′ (lit≤ tt))
+      ap₂ started (ap (λ (x : ℕ). x % 4294967296) (loaded-word s h 0 4 e (lit≤ tt)) ∙ mod-eq-of-lt (word-lt s h 0 4))
+      (loaded-word s h 4 8 e′ (lit≤ tt))
 
 module _ (s file : List ℕ) (d : Drawer) (ed : d ≡ drawerIn s) (ef : file ≡ keeping d) where
   judged : same s file ≡ same s (keeping (drawerIn s))
@@ -69,7 +75,8 @@ in-kept : (d : Drawer) → d .reader < 2 ^ 32 → d .count < 2 ^ 64 → drawerIn
 unfolding keeping nonce bytes
 in-kept d hr hc = ap₂ started (number-bytes 4 (d .reader) hr) (number-bytes 8 (d .count) hc)
 
-pub recalling-kept : (d : Drawer) → d .reader < 2 ^ 32 → d .count < 2 ^ 64 → recalling (keeping d) ≡ record { good = true; drawer = d }
+pub recalling-kept : (d : Drawer) → d .reader < 2 ^ 32 → d .count < 2 ^ 64
+    → recalling (keeping d) ≡ record { good = true; drawer = d }
 unfolding recalling
 recalling-kept d hr hc = rw (in-kept d hr hc, same-refl (keeping d))
 

@@ -20,4 +20,6 @@ drawerIn s = started (number (part s 0 4)) (number (part s 4 8))
 
 -- a file is taken where it is, to the byte, what keeping its drawer writes; otherwise nothing is left to draw
 unfoldable pub recalling : List ℕ → Recalled
-recalling s = cond (same s (keeping (drawerIn s))) (record { good = true; drawer = drawerIn s }) (record { good = false; drawer = started 0 (2 ^ 64 - 1) })
+recalling s =
+    cond (same s (keeping (drawerIn s))) (record { good = true; drawer = drawerIn s })
+    (record { good = false; drawer = started 0 (2 ^ 64 - 1) })

@@ -25,7 +25,8 @@ pub fn keep(d: Drawer) -> File
     file
 }
 
-// Whether s is, to the byte, what `keep` writes for its drawer, and that drawer; reader 0 with nothing left to draw where it is not.
+// Whether s is, to the byte, what `keep` writes for its drawer, and that drawer; reader 0 with nothing left to draw
+// where it is not.
 pub fn recall(s: &[u8]) -> Recalled
     ensures { λ r. ⌜ r ≡ recalling (now (s .entry)) ⌝ }
 {

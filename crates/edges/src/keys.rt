@@ -1,5 +1,5 @@
-// Looks classes up in each pair of thirteen kinds of book, good and bad. A line has the kinds of this term's book and of
-// last term's, the class, the number answered, the part handed back, and the book and the place where it lies.
+// Looks classes up in each pair of thirteen kinds of book, good and bad. A line has the kinds of this term's book and
+// of last term's, the class, the number answered, the part handed back, and the book and the place where it lies.
 ghost use Prim.Native.Nat.{_<_, _≤_};
 ghost use lib.ListN.{length};
 use super::fill;

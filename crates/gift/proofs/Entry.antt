@@ -15,7 +15,8 @@ use Rattle.words.proofs.Lists.{tab-at}
 use Rattle.answers.proofs.Answers.{Clear, refuse-clear, undone}
 use Rattle.gift.specs.declared.RoundKeys.{RoundKeys}
 use Rattle.gift.specs.Gift.{roundKey, forty, cipher, encipher, decipher}
-use Rattle.gift.specs.Entry.{roundKeys, roundKeyIn, enciphers, deciphers, rows, crypting, enciphering, deciphering}
+use Rattle.gift.specs.Entry.{roundKeys, roundKeyIn, enciphers, deciphers, rows, crypting, enciphering}
+use Rattle.gift.specs.Entry.{deciphering}
 use Rattle.gift.proofs.Inverse.{forty-same, cipher-lt, cipher-undone}
 
 -- ---- the round keys, worked out, are those of the rounds
@@ -44,11 +45,14 @@ pub record Allowed (key block : ℕ) : Type 0 where
   pub block-16 : block ≡ 16
 
 pub allowed : (key block : ℕ) → Clear (rows key block) → Allowed key block
-allowed key block (k, (b, none)) = record { key-16 = eqb-true _ _ (not-false _ k); block-16 = eqb-true _ _ (not-false _ b) }
+allowed key block (k, (b, none)) =
+    record { key-16 = eqb-true _ _ (not-false _ k); block-16 = eqb-true _ _ (not-false _ b) }
 
-pub crypted : (back : Bool) (key block : List ℕ) {k x y : Block} {a : RoundKeys} {end : List ℕ} → Clear (rows (length key) (length block))
+pub crypted : (back : Bool) (key block : List ℕ) {k x y : Block} {a : RoundKeys} {end : List ℕ}
+    → Clear (rows (length key) (length block))
     → k ≡ halves (loaded key 0 16) → a ≡ roundKeys (value k) → x ≡ halves (loaded block 0 16)
-    → y ≡ halves (forty back (roundKeyIn a) (value x)) → end ≡ stored block 0 16 (value y) → answered 0 end ≡ crypting back key block
+    → y ≡ halves (forty back (roundKeyIn a) (value x)) → end ≡ stored block 0 16 (value y)
+    → answered 0 end ≡ crypting back key block
 unfolding crypting
 crypted back key block {k} {x} {y} {a} {end} c ek ea ex ey ee =
     let l = allowed (length key) (length block) c in
@@ -82,14 +86,17 @@ module _ (back : Bool) (key block : List ℕ) (are : Bytes block) where
       ∙ ap (λ (n : ℕ). bytes n x) (sym hb)
       ∙ bytes-number block are
 
-  crypting-undone : crypting (not back) key (crypting back key block .outcome) ≡ answered (crypting back key block .number) block
+  crypting-undone : crypting (not back) key (crypting back key block .outcome)
+      ≡ answered (crypting back key block .number) block
   unfolding crypting there
   crypting-undone =
       undone (λ b. rows (length key) (length b)) (there back) (there (not back)) block
       (λ c. rw (length-bytes 16 (cipher back (number key) (number block)), full c)) (λ c. there-back (full c))
 
-pub deciphering-enciphering : (key block : List ℕ) → Bytes block → deciphering key (enciphering key block .outcome) ≡ answered (enciphering key block .number) block
+pub deciphering-enciphering : (key block : List ℕ) → Bytes block
+    → deciphering key (enciphering key block .outcome) ≡ answered (enciphering key block .number) block
 deciphering-enciphering = crypting-undone false
 
-pub enciphering-deciphering : (key block : List ℕ) → Bytes block → enciphering key (deciphering key block .outcome) ≡ answered (deciphering key block .number) block
+pub enciphering-deciphering : (key block : List ℕ) → Bytes block
+    → enciphering key (deciphering key block .outcome) ≡ answered (deciphering key block .number) block
 enciphering-deciphering = crypting-undone true

@@ -18,8 +18,11 @@ Undoes p q n = (i : ℕ) → i < n → (p i < n) × (q (p i) ≡ i)
 
 undoes : (p q : ℕ → ℕ) (n : ℕ) → T (allBelow (undoing p q n) n) → Undoes p q n
 undoes p q n t i l =
-    let b = below (undoing p q n) n t i l in
-    (ltb→lt (p i) n (and-left (ltb (p i) n) (eqb (q (p i)) i) b), eqb→eq (q (p i)) i (and-right (ltb (p i) n) (eqb (q (p i)) i) b))
+    let b = below (undoing p q n) n t i l in (
+      ltb→lt (p i) n (and-left (ltb (p i) n) (eqb (q (p i)) i) b),
+      eqb→eq (q (p i)) i
+          (and-right (ltb (p i) n) (eqb (q (p i)) i) b),
+    )
 
 -- ---- the S-box
 
@@ -33,7 +36,8 @@ abbrev entry : Bool → ℕ → ℕ → Bool
 entry back p n = eqb (p / 2 ^ (4 * n) % 16) (sbox back n)
 
 -- of p on the way back, of q on the way there
-pub packed : (back : Bool) (p q : ℕ) → T (allBelow (entry true p) 16) → T (allBelow (entry false q) 16) → (n : ℕ) → n < 16
+pub packed : (back : Bool) (p q : ℕ) → T (allBelow (entry true p) 16) → T (allBelow (entry false q) 16) → (n : ℕ)
+    → n < 16
     → cond back p q / 2 ^ (4 * n) % 16 ≡ sbox back n
 packed false p q t u n h = eqb→eq _ _ (below (entry false q) 16 u n h)
 packed true p q t u n h = eqb→eq _ _ (below (entry true p) 16 t n h)
@@ -55,8 +59,10 @@ module _ (back : Bool) where
 
 pub subCells-undone : (back : Bool) (x : ℕ) → x < 2 ^ 128 → subCells (not back) (subCells back x) ≡ x
 subCells-undone back x h =
-    digit-ext 16 32 (subCells (not back) (subCells back x)) x (zero-lt-suc 15) (subCells-lt (not back) (subCells back x)) h
-    (λ k l. subCells-at (not back) (subCells back x) k l ∙ ap (sbox (not back)) (subCells-at back x k l) ∙ sbox-undoes back (nibble k x) (nibble-lt k x) .1)
+    digit-ext 16 32 (subCells (not back) (subCells back x)) x (zero-lt-suc 15)
+    (subCells-lt (not back) (subCells back x)) h
+    (λ k l. subCells-at (not back) (subCells back x) k l ∙ ap (sbox (not back)) (subCells-at back x k l)
+    ∙ sbox-undoes back (nibble k x) (nibble-lt k x) .1)
 
 -- ---- the bit move
 
@@ -88,7 +94,8 @@ bit-lt f x i = mod-lt (x / 2 ^ f i) (zero-lt-suc 1)
 module _ (f t t′ : ℕ → ℕ) (tt′ : Undoes t t′ 128) (x : ℕ) where
   carried-at : (j : ℕ) → j < 128 → bit (t j) (carried f t x) ≡ bit (f j) x
   carried-at j l =
-      digit-scatter 1 (λ i. bit (f i) x) t 128 (t j) j (bit-lt f x) l refl (λ i k e. sym (tt′ i k .1) ∙ ap t′ e ∙ tt′ j l .1)
+      digit-scatter 1 (λ i. bit (f i) x) t 128 (t j) j (bit-lt f x) l refl
+      (λ i k e. sym (tt′ i k .1) ∙ ap t′ e ∙ tt′ j l .1)
 
   carried-lt : carried f t x < 2 ^ 128
   carried-lt = scatter-lt 1 (λ i. bit (f i) x) t 128 128 (bit-lt f x) (λ i l. tt′ i l .0)

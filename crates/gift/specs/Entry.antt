@@ -36,11 +36,13 @@ deciphers a x = forty true (roundKeyIn a) x
 -- ---- on byte buffers; of their lengths: 1 "key has a wrong length", 4 "text or block length not allowed"
 
 abbrev pub rows : ℕ → ℕ → List Row
-rows key block = record { applies = not (eqb key 16); number = 1 } ∷ record { applies = not (eqb block 16); number = 4 } ∷ []
+rows key block =
+    record { applies = not (eqb key 16); number = 1 } ∷ record { applies = not (eqb block 16); number = 4 } ∷ []
 
 -- the number that is answered, and the bytes of the block then
 unfoldable pub crypting : Bool → List ℕ → List ℕ → Answer (List ℕ)
-crypting back key block = answer (rows (length key) (length block)) (bytes 16 (cipher back (number key) (number block))) block
+crypting back key block =
+    answer (rows (length key) (length block)) (bytes 16 (cipher back (number key) (number block))) block
 
 abbrev pub enciphering : List ℕ → List ℕ → Answer (List ℕ)
 enciphering key block = crypting false key block

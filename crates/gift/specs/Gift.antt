@@ -43,7 +43,8 @@ place i = 4 * (i / 16) + 32 * ((3 * (i % 16 / 4) + i % 4) % 4) + i % 4
 unfoldable pub permBits : Bool → ℕ → ℕ
 permBits back x = xsum (λ i. bit (cond back (place i) i) x * 2 ^ cond back i (place i)) 128
 
--- ---- 3. "The key state is k7..k0, words of 16 bits, k0 lowest. Let U = k5 then k4 and V = k1 then k0, the first word higher."
+-- ---- 3. "The key state is k7..k0, words of 16 bits, k0 lowest. Let U = k5 then k4 and V = k1 then k0, the first word
+-- higher."
 
 abbrev pub word : ℕ → ℕ → ℕ
 word j k = k / 2 ^ (16 * j) % 2 ^ 16
@@ -62,8 +63,8 @@ spread o n u = xsum (λ i. bit i u * 2 ^ (4 * i + o)) n
 unfoldable pub keyBits : ℕ → ℕ
 keyBits k = bitXor (spread 2 32 (keyU k)) (spread 1 32 (keyV k))
 
--- ---- 4. "The round constant starts at 0 and is stepped before each use: shift left by one in six bits, with the new low bit
--- c5 + c4 + 1 modulo 2."
+-- ---- 4. "The round constant starts at 0 and is stepped before each use: shift left by one in six bits, with the new
+-- low bit c5 + c4 + 1 modulo 2."
 
 abbrev pub stepConst : ℕ → ℕ
 stepConst c = c * 2 % 2 ^ 6 + (bit 5 c + bit 4 c + 1) % 2

@@ -6,8 +6,10 @@ ghost use lib.Bits.{bitXor};
 ghost use Rattle.words.specs.Block.{value, halves};
 ghost use Rattle.words.specs.Digits.{rotr};
 ghost use Rattle.answers.specs.Answers.{numberOf, answered};
-ghost use Rattle.gift.specs.Gift.{sbox, subCells, permBits, spread, keyBits, stepConst, constBits, keyStep, round, forty};
-ghost use Rattle.gift.specs.Entry.{placeTable, roundKeys, roundKeyIn, enciphers, deciphers, rows, crypting, Enciphering, Deciphering};
+ghost use Rattle.gift.specs.Gift.{sbox, subCells, permBits, spread, keyBits, stepConst, constBits, keyStep};
+ghost use Rattle.gift.specs.Gift.{round, forty};
+ghost use Rattle.gift.specs.Entry.{placeTable, roundKeys, roundKeyIn, enciphers, deciphers, rows, crypting};
+ghost use Rattle.gift.specs.Entry.{Enciphering, Deciphering};
 
 mod places;
 

@@ -16,7 +16,8 @@ use Rattle.words.proofs.Lists.{sets-append}
 use Rattle.words.proofs.Over.{sets-front}
 use Rattle.words.proofs.Tests.{below}
 use Rattle.hex.specs.declared.Hex.{Hex}
-use Rattle.hex.specs.Hex.{glyph, digitsOf, written, spelling, Spelling, wordOf, showing, Showing, meaning, Reading, start, spoilt, halfway, whole, takenByte, takenIn}
+use Rattle.hex.specs.Hex.{glyph, digitsOf, written, spelling, Spelling, wordOf, showing, Showing, meaning}
+use Rattle.hex.specs.Hex.{Reading, start, spoilt, halfway, whole, takenByte, takenIn}
 
 -- ---- writing
 
@@ -26,7 +27,8 @@ length-written [] = refl
 length-written (b ∷ s) = omega (arith, length-written s)
 
 -- one step of the loop
-pub write-next : (s room room′ l : List ℕ) (i : ℕ) → i < length s → room′ ≡ sets room (2 * i) (digitsOf (getD s i 0)) → sets room (2 * i) (written (drop i s)) ≡ l
+pub write-next : (s room room′ l : List ℕ) (i : ℕ) → i < length s → room′ ≡ sets room (2 * i) (digitsOf (getD s i 0))
+    → sets room (2 * i) (written (drop i s)) ≡ l
     → sets room′ (2 * (i + 1)) (written (drop (i + 1) s)) ≡ l
 unfolding written digitsOf
 write-next s room room′ l i h e inv =
@@ -37,9 +39,11 @@ write-next s room room′ l i h e inv =
 -- after it
 pub write-end : (s room l : List ℕ) (i : ℕ) → length s ≤ i → sets room (2 * i) (written (drop i s)) ≡ l → room ≡ l
 unfolding written
-write-end s room l i h inv = ap (λ (t : List ℕ). sets room (2 * i) (written t)) (sym (drop-of-length-le s {i = i} h)) ∙ inv
+write-end s room l i h inv =
+    ap (λ (t : List ℕ). sets room (2 * i) (written t)) (sym (drop-of-length-le s {i = i} h)) ∙ inv
 
-pub write-first : (s room : List ℕ) → 2 * length s ≤ length room → sets room (2 * 0) (written (drop 0 s)) ≡ over (written s) room
+pub write-first : (s room : List ℕ) → 2 * length s ≤ length room
+    → sets room (2 * 0) (written (drop 0 s)) ≡ over (written s) room
 write-first s room h = sets-front (written s) room (omega (arith, length-written s))
 
 -- ---- a word
@@ -50,9 +54,11 @@ dash-none room h = rw (lt-ltb (length room) 1 (omega arith))
 
 pub dash-one : (room : List ℕ) → (length room ≡ 0 → ⊥) → Showing 1 [] room (set room 0 45)
 unfolding showing wordOf
-dash-one room h = rw (le-ltb (length room) 1 (omega arith)) (ap (λ (l : List ℕ). (1, l)) (sets-front (45 ∷ []) room (omega arith)))
+dash-one room h =
+    rw (le-ltb (length room) 1 (omega arith)) (ap (λ (l : List ℕ). (1, l)) (sets-front (45 ∷ []) room (omega arith)))
 
-pub word-none : (s room : List ℕ) {r : ℕ} {room′ : List ℕ} → length s ≡ 0 → Showing r [] room room′ → Showing r s room room′
+pub word-none : (s room : List ℕ) {r : ℕ} {room′ : List ℕ} → length s ≡ 0 → Showing r [] room room′
+    → Showing r s room room′
 word-none [] room h e = e
 word-none (b ∷ s) room h e = absurd (omega arith)
 
@@ -70,7 +76,8 @@ module _ (s room : List ℕ) {n : ℕ} {room′ : List ℕ} (e : Spelling n s ro
   unfolding spelling
   word-refused z = by (ltb (length room) (2 * length s)) (over (written s) room) e ∙ sym shows
     where
-      by : (u : Bool) (y : List ℕ) → answered n room′ ≡ cond u (answered 6 room) (answered 0 y) → _≡_ {A = ℕ × List ℕ} (0, room′) (cond u (0, room) (2 * length s, y))
+      by : (u : Bool) (y : List ℕ) → answered n room′ ≡ cond u (answered 6 room) (answered 0 y)
+          → _≡_ {A = ℕ × List ℕ} (0, room′) (cond u (0, room) (2 * length s, y))
       by true y q = ap (λ (a : Answer (List ℕ)). (0, a .outcome)) q
       by false y q = absurd (z (ap (λ (a : Answer (List ℕ)). a .number) q))
 
@@ -78,7 +85,8 @@ module _ (s room : List ℕ) {n : ℕ} {room′ : List ℕ} (e : Spelling n s ro
   unfolding spelling
   word-is z = by (ltb (length room) (2 * length s)) (over (written s) room) e ∙ sym shows
     where
-      by : (u : Bool) (y : List ℕ) → answered n room′ ≡ cond u (answered 6 room) (answered 0 y) → _≡_ {A = ℕ × List ℕ} (2 * length s, room′) (cond u (0, room) (2 * length s, y))
+      by : (u : Bool) (y : List ℕ) → answered n room′ ≡ cond u (answered 6 room) (answered 0 y)
+          → _≡_ {A = ℕ × List ℕ} (2 * length s, room′) (cond u (0, room) (2 * length s, y))
       by true y q = absurd (omega (arith, z, ap (λ (a : Answer (List ℕ)). a .number) q))
       by false y q = ap (λ (a : Answer (List ℕ)). (2 * length s, a .outcome)) q
 
@@ -103,7 +111,8 @@ module _ (b : ℕ) (r : Reading) {d : ℕ} (e : d ≡ meaning b) where
     read-low h = simp (ne-eqb (meaning b) 16 (λ z. n (e ∙ z)), ne-eqb (meaning b) 17 (λ z. n′ (e ∙ z)), h) (rw e)
 
 -- one step of the loop
-pub read-next : (text : List ℕ) (i : ℕ) (r r′ l : Reading) → i < length text → r′ ≡ takenByte (getD text i 0) r → takenIn (drop i text) r ≡ l → takenIn (drop (i + 1) text) r′ ≡ l
+pub read-next : (text : List ℕ) (i : ℕ) (r r′ l : Reading) → i < length text → r′ ≡ takenByte (getD text i 0) r
+    → takenIn (drop i text) r ≡ l → takenIn (drop (i + 1) text) r′ ≡ l
 unfolding takenIn
 read-next text i r r′ l h e inv = rw (add-one, e) (ap (λ (t : List ℕ). takenIn t r) (sym (drop-cons text i 0 h)) ∙ inv)
 
@@ -130,12 +139,15 @@ at-byte n = record { good = true; half = false; high = 0; len = n }
 
 -- the digits of one byte
 byte-back : (b n : ℕ) (room : List ℕ) → b < 256 → n < length room
-    → takenByte (glyph (b % 16)) (takenByte (glyph (b / 16)) (record { hex = at-byte n; room = room })) ≡ record { hex = at-byte (n + 1); room = set room n b }
+    → takenByte (glyph (b % 16)) (takenByte (glyph (b / 16)) (record { hex = at-byte n; room = room }))
+    ≡ record { hex = at-byte (n + 1); room = set room n b }
 byte-back b n room h k =
     let hi : b / 16 < 16 = omega arith in
     let lo : b % 16 < 16 = omega arith in
-    let e₁ : record { hex = halfway (b / 16) (at-byte n); room = room } ≡ takenByte (glyph (b / 16)) (record { hex = at-byte n; room = room }) =
-    read-high (glyph (b / 16)) (record { hex = at-byte n; room = room }) (sym (glyph-means (b / 16) hi)) (λ z. omega (arith, z)) (λ z. omega (arith, z)) refl in
+    let e₁ : record { hex = halfway (b / 16) (at-byte n); room = room }
+    ≡ takenByte (glyph (b / 16)) (record { hex = at-byte n; room = room }) =
+    read-high (glyph (b / 16)) (record { hex = at-byte n; room = room }) (sym (glyph-means (b / 16) hi))
+    (λ z. omega (arith, z)) (λ z. omega (arith, z)) refl in
     let r : Reading = record { hex = halfway (b / 16) (at-byte n); room = room } in
     let e₂ : whole (b % 16) r ≡ takenByte (glyph (b % 16)) r =
     read-low (glyph (b % 16)) r (sym (glyph-means (b % 16) lo)) (λ z. omega (arith, z)) (λ z. omega (arith, z)) refl in
@@ -144,18 +156,21 @@ byte-back b n room h k =
     ∙ ap₂ (λ (l : ℕ) (x : ℕ). record { hex = at-byte l; room = set room n x }) (rw (lt-ltb n (length room) k)) v
 
 pub reading-written : (s room : List ℕ) (n : ℕ) → Bytes s → n + length s ≤ length room
-    → takenIn (written s) (record { hex = at-byte n; room = room }) ≡ record { hex = at-byte (n + length s); room = sets room n s }
+    → takenIn (written s) (record { hex = at-byte n; room = room })
+    ≡ record { hex = at-byte (n + length s); room = sets room n s }
 unfolding takenIn written digitsOf
 reading-written [] room n h k = rw add-zero
 reading-written (b ∷ s) room n h k =
     let l : length (set room n b) ≡ length room = length-set room n b in
     let e : n + suc (length s) ≡ n + 1 + length s = omega arith in
-    rw (byte-back b n room (h 0) (omega arith), e) (reading-written s (set room n b) (n + 1) (λ j. h (suc j)) (omega arith)
+    rw (byte-back b n room (h 0) (omega arith), e)
+    (reading-written s (set room n b) (n + 1) (λ j. h (suc j)) (omega arith)
     ∙ ap (λ (i : ℕ). record { hex = at-byte (n + 1 + length s); room = sets (set room n b) i s }) (add-one n))
 
 -- from the start: all of it is in front of the room, and nothing waits
 pub read-back : (s room : List ℕ) → Bytes s → length s ≤ length room
-    → takenIn (written s) (record { hex = start; room = room }) ≡ record { hex = at-byte (length s); room = over s room }
+    → takenIn (written s) (record { hex = start; room = room })
+    ≡ record { hex = at-byte (length s); room = over s room }
 read-back s room h k =
     reading-written s room 0 h (omega arith)
     ∙ ap₂ (λ (n : ℕ) (l : List ℕ). record { hex = at-byte n; room = l }) (zero-add (length s)) (sets-front s room k)

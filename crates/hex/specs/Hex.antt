@@ -25,7 +25,8 @@ written (b ∷ s) = digitsOf b ++ written s
 
 -- the number that is answered, and what the room holds then; 6 "room too short"
 unfoldable pub spelling : List ℕ → List ℕ → Answer (List ℕ)
-spelling s room = answer (record { applies = ltb (length room) (2 * length s); number = 6 } ∷ []) (over (written s) room) room
+spelling s room =
+    answer (record { applies = ltb (length room) (2 * length s); number = 6 } ∷ []) (over (written s) room) room
 
 abbrev pub Spelling : ℕ → List ℕ → List ℕ → List ℕ → Type 0
 Spelling r s room room′ = answered r room′ ≡ spelling s room
@@ -78,7 +79,13 @@ halfway d h = record { good = h .good; half = true; high = d; len = h .len }
 abbrev pub whole : ℕ → Reading → Reading
 whole d r =
     record {
-      hex = record { good = r .hex .good; half = false; high = 0; len = cond (ltb (r .hex .len) (length (r .room))) (r .hex .len + 1) (r .hex .len) };
+      hex =
+          record {
+            good = r .hex .good;
+            half = false;
+            high = 0;
+            len = cond (ltb (r .hex .len) (length (r .room))) (r .hex .len + 1) (r .hex .len);
+          };
       room = set (r .room) (r .hex .len) (r .hex .high % 16 * 16 + d);
     }
 

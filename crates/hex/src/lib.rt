@@ -30,8 +30,8 @@ pub fn begin() -> Hex
     }
 }
 
-// Reads on from h, with `text`: how far the whole has been read then, and in the room the bytes that are complete. Those
-// for which the room is too short are not written.
+// Reads on from h, with `text`: how far the whole has been read then, and in the room the bytes that are complete.
+// Those for which the room is too short are not written.
 pub fn take_in(h: Hex, text: &[u8], room: &mut [u8]) -> Hex
     ensures { λ r. ⌜ TakingIn r h (now (text .entry)) (now (room .entry)) (now (room .exit)) ⌝ }
 {
@@ -59,8 +59,8 @@ pub fn spell(s: &[u8], room: &mut [u8]) -> u32
     0
 }
 
-// Writes s to room as a word: its digits, or `-` where it has no bytes. Answers how long the word is, or 0 where it does
-// not fit.
+// Writes s to room as a word: its digits, or `-` where it has no bytes. Answers how long the word is, or 0 where it
+// does not fit.
 pub fn show(s: &[u8], room: &mut [u8]) -> usize
     ensures { λ r. ⌜ Showing r (now (s .entry)) (now (room .entry)) (now (room .exit)) ⌝ }
 {
@@ -92,7 +92,8 @@ fn two(room: &mut [u8], at: usize, b: u8)
 }
 
 fn one(h: Hex, b: u8, room: &mut [u8]) -> Hex
-    ensures { λ r. ⌜ record { hex = r; room = now (room .exit) } ≡ takenByte b (record { hex = h; room = now (room .entry) }) ⌝ }
+    ensures { λ r. ⌜ record { hex = r; room = now (room .exit) }
+        ≡ takenByte b (record { hex = h; room = now (room .entry) }) ⌝ }
 {
     let d = meaning_of(b);
     if d == 16 {
@@ -126,7 +127,8 @@ fn one(h: Hex, b: u8, room: &mut [u8]) -> Hex
 
 // Stores a byte where there is room for it, and answers where the next one goes.
 fn stored(room: &mut [u8], at: usize, b: u8) -> usize
-    ensures { λ r. ⌜ (r ≡ cond (ltb at (length (now (room .entry)))) (at + 1) at) × (now (room .exit) ≡ set (now (room .entry)) at b) ⌝ }
+    ensures { λ r. ⌜ (r ≡ cond (ltb at (length (now (room .entry)))) (at + 1) at)
+        × (now (room .exit) ≡ set (now (room .entry)) at b) ⌝ }
 {
     if at < room.len() {
         room[at] = b;

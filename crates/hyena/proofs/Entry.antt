@@ -30,29 +30,36 @@ use Rattle.hyena.specs.Entry.{Inputs, refusals, outputOf, tagOf, Sealing
 
 -- ---- the steps, one after the other
 
-ended-is : (E : ℕ → ℕ) (way : Bool) (nonce a d : List ℕ) {s : StateY} {t : StateX} → s ≡ heldY (dataFirst (E (startBlock nonce (length a) (length d))))
+ended-is : (E : ℕ → ℕ) (way : Bool) (nonce a d : List ℕ) {s : StateY} {t : StateX}
+    → s ≡ heldY (dataFirst (E (startBlock nonce (length a) (length d))))
     → t ≡ heldX (afterData E (readY s) a) → afterText E way (readX t) d ≡ ended E way nonce a d
 unfolding ended
 ended-is E way nonce a d {s} {t} es et =
     let f = dataFirst (E (startBlock nonce (length a) (length d))) in
     let ef : readY s ≡ f = ap readY es ∙ readY-held f in
-    ap (λ (u : mode.StateX). afterText E way u d) (ap readX (et ∙ ap (λ g. heldX (afterData E g a)) ef) ∙ readX-held (afterData E f a) (data-out E f a))
+    ap (λ (u : mode.StateX). afterText E way u d) (ap readX (et ∙ ap (λ g. heldX (afterData E g a)) ef)
+    ∙ readX-held (afterData E f a) (data-out E f a))
 
 keyed-is : (k : ℕ) → enciphers (keyed k) ≡ encipher k
 unfolding enciphers keyed
 keyed-is k = fun-ext (enciphers-is k)
 
-pub ran : (way : Bool) (key nonce a d room : List ℕ) (e : Keyed) {k r : Block} {s : StateY} {t u : StateX} {room′ : List ℕ} → length key ≡ 16 → length nonce ≡ 12
-    → k ≡ halves (loaded key 0 16) → e ≡ keyed (value k) → s ≡ started e nonce (length a) (length d) → t ≡ heldX (afterData (enciphers e) (readY s) a)
-    → u ≡ heldX (afterText (enciphers e) way (readX t) d) → room′ ≡ sets room 0 (afterText (enciphers e) way (readX t) d .out) → r ≡ tagged e u
+pub ran : (way : Bool) (key nonce a d room : List ℕ) (e : Keyed) {k r : Block} {s : StateY} {t u : StateX}
+    {room′ : List ℕ} → length key ≡ 16 → length nonce ≡ 12
+    → k ≡ halves (loaded key 0 16) → e ≡ keyed (value k) → s ≡ started e nonce (length a) (length d)
+    → t ≡ heldX (afterData (enciphers e) (readY s) a)
+    → u ≡ heldX (afterText (enciphers e) way (readX t) d)
+    → room′ ≡ sets room 0 (afterText (enciphers e) way (readX t) d .out) → r ≡ tagged e u
     → (r ≡ halves (tag (gift key) way nonce a d)) × (room′ ≡ sets room 0 (outputs (gift key) way nonce a d))
 unfolding tag outputs heldX
 ran way key nonce a d room e {k} {r} {s} {t} {u} {room′} lk ln ek ee es et eu er et′ =
     let E = enciphers e in
     let eE : E ≡ gift key = ap enciphers ee ∙ keyed-is (value k) ∙ ap encipher (value-is ek ∙ loaded-all key lk) in
     let en : afterText E way (readX t) d ≡ ended E way nonce a d =
-    ended-is E way nonce a d (es ∙ ap (λ (n : List ℕ). heldY (dataFirst (E (startBlock n (length a) (length d))))) (take-all 12 nonce (omega arith))) et in
-    let ex : value (u .x) ≡ ended E way nonce a d .X = ap (λ (z : StateX). value (z .x)) eu ∙ value-halves _ ∙ ap (λ (z : mode.StateX). z .X) en in (
+    ended-is E way nonce a d (es ∙ ap (λ (n : List ℕ). heldY (dataFirst (E (startBlock n (length a) (length d)))))
+    (take-all 12 nonce (omega arith))) et in
+    let ex : value (u .x) ≡ ended E way nonce a d .X =
+    ap (λ (z : StateX). value (z .x)) eu ∙ value-halves _ ∙ ap (λ (z : mode.StateX). z .X) en in (
       et′ ∙ ap (λ (x : ℕ). halves (E (swapped x))) ex ∙ ap (λ F. halves (F (swapped (ended F way nonce a d .X)))) eE,
       er ∙ ap (λ (z : mode.StateX). sets room 0 (z .out)) en ∙ ap (λ F. sets room 0 (ended F way nonce a d .out)) eE,
     )
@@ -82,18 +89,24 @@ allowed i tag room (key, (nonce, («data», (text, (tag′, (room′, none))))))
 
 module _ (cipher : List ℕ → ℕ → ℕ) (i : Inputs) where
   -- what was written to the front of a room that is long enough
-  written : (way : Bool) (room : List ℕ) → length (i .text) ≤ length room → sets room 0 (outputOf cipher way i) ≡ over (outputOf cipher way i) room
-  written way room fits = sets-front (outputOf cipher way i) room (omega (arith, length-outputs (cipher (i .key)) way (i .nonce) (i .«data») (i .text)))
+  written : (way : Bool) (room : List ℕ) → length (i .text) ≤ length room
+      → sets room 0 (outputOf cipher way i) ≡ over (outputOf cipher way i) room
+  written way room fits =
+      sets-front (outputOf cipher way i) room
+      (omega (arith, length-outputs (cipher (i .key)) way (i .nonce) (i .«data») (i .text)))
 
   -- a call that is not refused by its lengths goes by the tag
-  pub opening-by : (tag room : List ℕ) → Clear (refusals i tag room) → (t : Bool) → eqb (number tag) (number (tagOf cipher true i)) ≡ t
-      → opening cipher i tag room ≡ cond t (answered 0 (over (outputOf cipher true i) room)) (answered 7 (over (replicate (length (i .text)) 0) room))
+  pub opening-by : (tag room : List ℕ) → Clear (refusals i tag room) → (t : Bool)
+      → eqb (number tag) (number (tagOf cipher true i)) ≡ t
+      → opening cipher i tag room ≡ cond t (answered 0 (over (outputOf cipher true i) room))
+      (answered 7 (over (replicate (length (i .text)) 0) room))
   unfolding opening
   opening-by tag room c true e = refuse-clear room _ (refusals i tag room) c ∙ rw e
   opening-by tag room c false e = refuse-clear room _ (refusals i tag room) c ∙ rw e
 
   module _ (tag₀ room : List ℕ) (c : Clear (refusals i tag₀ room)) where
-    pub sealed-is : {t : Block} {room′ tag′ : List ℕ} → t ≡ halves (tag (cipher (i .key)) false (i .nonce) (i .«data») (i .text)) → room′ ≡ sets room 0 (outputOf cipher false i)
+    pub sealed-is : {t : Block} {room′ tag′ : List ℕ} → t ≡ halves
+        (tag (cipher (i .key)) false (i .nonce) (i .«data») (i .text)) → room′ ≡ sets room 0 (outputOf cipher false i)
         → tag′ ≡ stored tag₀ 0 16 (value t) → Sealing cipher 0 i room tag₀ room′ tag′
     unfolding sealing
     sealed-is {t} et er eg =
@@ -102,7 +115,8 @@ module _ (cipher : List ℕ → ℕ → ℕ) (i : Inputs) where
         (eg ∙ stored-all tag₀ (value t) (l .tag-16) ∙ ap (bytes 16) (value-is et))
         ∙ sym (refuse-clear _ _ (refusals i tag₀ room) c)
 
-    module _ {t l : Block} {room₁ : List ℕ} (lo : t .lo < 2 ^ 64) (hi : t .hi < 2 ^ 64) (et : t ≡ halves (tag (cipher (i .key)) true (i .nonce) (i .«data») (i .text)))
+    module _ {t l : Block} {room₁ : List ℕ} (lo : t .lo < 2 ^ 64) (hi : t .hi < 2 ^ 64)
+        (et : t ≡ halves (tag (cipher (i .key)) true (i .nonce) (i .«data») (i .text)))
         (er : room₁ ≡ sets room 0 (outputOf cipher true i)) (el : l ≡ halves (loaded tag₀ 0 16)) where
       -- what is compared
       compared : eqb (value l) (value t) ≡ eqb (number tag₀) (number (tagOf cipher true i))
@@ -116,7 +130,8 @@ module _ (cipher : List ℕ → ℕ → ℕ) (i : Inputs) where
       pub opened-is : eqb (value l) (value t) ≡ true → Opening cipher 0 i tag₀ room room₁
       opened-is e = ap (answered 0) text-there ∙ sym (opening-by tag₀ room c true (sym compared ∙ e))
 
-      pub wrong-is : {room′ : List ℕ} → eqb (value l) (value t) ≡ false → room′ ≡ over (replicate (length (i .text)) 0) room₁ → Opening cipher 7 i tag₀ room room′
+      pub wrong-is : {room′ : List ℕ} → eqb (value l) (value t) ≡ false
+          → room′ ≡ over (replicate (length (i .text)) 0) room₁ → Opening cipher 7 i tag₀ room room′
       wrong-is e ew =
           let n = length (i .text) in
           ap (answered 7) (ew ∙ ap (over (replicate n 0)) text-there

@@ -19,7 +19,8 @@ use Rattle.words.proofs.Lists.{sets-append}
 use Rattle.words.proofs.Over.{over-next}
 use Rattle.words.proofs.Iterate.{iterate-next}
 use Rattle.mode.specs.Hyena as mode
-use Rattle.mode.specs.Hyena.{before, blockAt, last, full, walk, output, dataEach, dataAt, dataLast, afterData, textBlock, textAt, afterText}
+use Rattle.mode.specs.Hyena.{before, blockAt, last, full, walk, output, dataEach, dataAt, dataLast, afterData}
+use Rattle.mode.specs.Hyena.{textBlock, textAt, afterText}
 use Rattle.mode.proofs.Cuts.{last-length, last-part}
 use Rattle.mode.proofs.Trip.{text-none, text-some, length-at}
 use Rattle.hyena_blocks.specs.declared.StateY.{StateY}
@@ -30,7 +31,8 @@ use Rattle.hyena_blocks.proofs.Steps.{low-xor, readY-held, held-readX}
 -- ---- associated data
 
 module _ (E : ℕ → ℕ) (a : List ℕ) (h : Bytes a) where
-  pub data-next : (f : mode.StateY) (i : ℕ) {s t : StateY} {d : Block} → i < before a → s ≡ heldY (dataAt E a f i) → d ≡ halves (loaded a (16 * i) 16)
+  pub data-next : (f : mode.StateY) (i : ℕ) {s t : StateY} {d : Block} → i < before a → s ≡ heldY (dataAt E a f i)
+      → d ≡ halves (loaded a (16 * i) 16)
       → t ≡ heldY (dataEach E (readY s) (low 16 (value d))) → t ≡ heldY (dataAt E a f (i + 1))
   data-next f i {s} {t} {d} l es ed et =
       et
@@ -39,19 +41,24 @@ module _ (E : ℕ → ℕ) (a : List ℕ) (h : Bytes a) where
       (ap (low 16) (value-is ed) ∙ loaded-back a (16 * i) 16 h (omega arith) (omega arith))
       ∙ iterate-next (λ j u. dataEach E u (blockAt a j)) i f refl refl)
 
-  pub data-end : (f : mode.StateY) (k : ℕ) {s : StateY} {t : StateX} {d : Block} → (length a ≡ 0 → ⊥) → s ≡ heldY (dataAt E a f (before a))
-      → k ≡ cond (eqb (length a - 16 * before a) 16) 1 2 → d ≡ halves (loaded a (16 * before a) (length a - 16 * before a))
+  pub data-end : (f : mode.StateY) (k : ℕ) {s : StateY} {t : StateX} {d : Block} → (length a ≡ 0 → ⊥)
+      → s ≡ heldY (dataAt E a f (before a))
+      → k ≡ cond (eqb (length a - 16 * before a) 16) 1 2
+      → d ≡ halves (loaded a (16 * before a) (length a - 16 * before a))
       → t ≡ heldX (dataLast k (readY s) (low (length a - 16 * before a) (value d))) → t ≡ heldX (afterData E f a)
   unfolding afterData walk
   data-end f k {s} {t} {d} some es ek ed et =
       let n = length a - 16 * before a in
-      let ends : low n (value d) ≡ last a = ap (low n) (value-is ed) ∙ loaded-back a (16 * before a) n h (omega arith) (omega arith) ∙ last-part a in
+      let ends : low n (value d) ≡ last a = ap (low n) (value-is ed)
+      ∙ loaded-back a (16 * before a) n h (omega arith) (omega arith) ∙ last-part a in
       et ∙ ap heldX (rw (ne-eqb (length a) 0 some, ek, es, readY-held (dataAt E a f (before a)), ends, last-length a))
 
-pub data-none : (E : ℕ → ℕ) (f : mode.StateY) (a : List ℕ) {t : StateX} → length a ≡ 0 → t ≡ heldX (dataLast 2 f (low 16 (value (record { lo = 1; hi = 0 })))) → t ≡ heldX (afterData E f a)
+pub data-none : (E : ℕ → ℕ) (f : mode.StateY) (a : List ℕ) {t : StateX} → length a ≡ 0
+    → t ≡ heldX (dataLast 2 f (low 16 (value (record { lo = 1; hi = 0 })))) → t ≡ heldX (afterData E f a)
 unfolding afterData value
 data-none E f a none et =
-    et ∙ ap heldX (ap (dataLast 2 f) (take-all 16 (bytes 16 1) (omega (arith, length-bytes 16 1))) ∙ rw (eq-eqb (length a) 0 none))
+    et ∙ ap heldX (ap (dataLast 2 f) (take-all 16 (bytes 16 1) (omega (arith, length-bytes 16 1)))
+    ∙ rw (eq-eqb (length a) 0 none))
 
 -- ---- text
 
@@ -61,20 +68,26 @@ Held t room₀ u room = (u ≡ heldX t) × (room ≡ sets room₀ 0 (t .out))
 
 module _ (E : ℕ → ℕ) (opening : Bool) (s : List ℕ) (h : Bytes s) where
   -- a block of it, in the code's steps
-  pub part-is : (t : StateX) (k at n : ℕ) (room : List ℕ) {u : StateX} {d o : Block} {room′ : List ℕ} → n ≤ 16 → at + n ≤ length s → d ≡ halves (loaded s at n)
-      → u ≡ heldX (textBlock E opening k (readX t) (low n (value d))) → o ≡ halves (bitXor (value d) (E (value (t .x)))) → room′ ≡ stored room at n (value o)
-      → (u ≡ heldX (textBlock E opening k (readX t) (part s at n))) × (room′ ≡ sets room at (output (part s at n) (E (value (t .x)))))
+  pub part-is : (t : StateX) (k at n : ℕ) (room : List ℕ) {u : StateX} {d o : Block} {room′ : List ℕ} → n ≤ 16
+      → at + n ≤ length s → d ≡ halves (loaded s at n)
+      → u ≡ heldX (textBlock E opening k (readX t) (low n (value d))) → o ≡ halves (bitXor (value d) (E (value (t .x))))
+      → room′ ≡ stored room at n (value o)
+      → (u ≡ heldX (textBlock E opening k (readX t) (part s at n)))
+      × (room′ ≡ sets room at (output (part s at n) (E (value (t .x)))))
   unfolding stored
   part-is t k at n room {u} {d} {o} n16 there ed eu eo er =
       let p : low n (value d) ≡ part s at n = ap (low n) (value-is ed) ∙ loaded-back s at n h n16 (omega arith) in (
         eu ∙ ap (λ l. heldX (textBlock E opening k (readX t) l)) p,
-        er ∙ ap (sets room at) (ap (low n) (value-is eo) ∙ low-xor n (value d) (E (value (t .x))) ∙ ap (λ l. output l (E (value (t .x)))) p),
+        er ∙ ap (sets room at) (ap (low n) (value-is eo) ∙ low-xor n (value d) (E (value (t .x)))
+            ∙ ap (λ l. output l (E (value (t .x)))) p),
       )
 
 module _ (E : ℕ → ℕ) (opening : Bool) (s room₀ : List ℕ) where
   -- a block d at the end of the output
-  block-held : (t : mode.StateX) (k at : ℕ) (d : List ℕ) {u v : StateX} {room room′ : List ℕ} → length (t .out) ≡ at → Held t room₀ u room
-      → v ≡ heldX (textBlock E opening k (readX u) d) → room′ ≡ sets room at (output d (E (value (u .x)))) → Held (textBlock E opening k t d) room₀ v room′
+  block-held : (t : mode.StateX) (k at : ℕ) (d : List ℕ) {u v : StateX} {room room′ : List ℕ}
+      → length (t .out) ≡ at → Held t room₀ u room
+      → v ≡ heldX (textBlock E opening k (readX u) d) → room′ ≡ sets room at (output d (E (value (u .x))))
+      → Held (textBlock E opening k t d) room₀ v room′
   unfolding textBlock heldX
   block-held t k at d {u} {v} {room} lo held ev er =
       let o = output d (E (t .X)) in
@@ -82,29 +95,38 @@ module _ (E : ℕ → ℕ) (opening : Bool) (s room₀ : List ℕ) where
       let em : u .mask ≡ t .Δ = ap (λ (a : StateX). a .mask) (held .0) in
       let there : at ≡ 0 + length (t .out) = omega arith in (
         ev ∙ rw (ex, em),
-        er ∙ ap₂ (λ (r : List ℕ) (x : ℕ). sets r at (output d (E x))) (held .1) ex ∙ ap (λ (i : ℕ). sets (sets room₀ 0 (t .out)) i o) there
+        er ∙ ap₂ (λ (r : List ℕ) (x : ℕ). sets r at (output d (E x))) (held .1) ex
+            ∙ ap (λ (i : ℕ). sets (sets room₀ 0 (t .out)) i o) there
             ∙ sets-append room₀ 0 (t .out) o,
       )
 
   module _ (t : mode.StateX) (none : t .out ≡ []) where
-    pub text-next : (i : ℕ) {u v : StateX} {room room′ : List ℕ} → i < before s → Held (textAt E opening s t i) room₀ u room
-        → v ≡ heldX (textBlock E opening 1 (readX u) (blockAt s i)) → room′ ≡ sets room (16 * i) (output (blockAt s i) (E (value (u .x))))
+    pub text-next : (i : ℕ) {u v : StateX} {room room′ : List ℕ} → i < before s
+        → Held (textAt E opening s t i) room₀ u room
+        → v ≡ heldX (textBlock E opening 1 (readX u) (blockAt s i))
+        → room′ ≡ sets room (16 * i) (output (blockAt s i) (E (value (u .x))))
         → Held (textAt E opening s t (i + 1)) room₀ v room′
     text-next i {u} {v} {room} {room′} l held ev er =
         subst (λ z. Held z room₀ v room′) (iterate-next (λ j w. textBlock E opening 1 w (blockAt s j)) i t refl refl)
-        (block-held (textAt E opening s t i) 1 (16 * i) (blockAt s i) (length-at E opening t none s i (omega arith)) held ev er)
+        (block-held (textAt E opening s t i) 1 (16 * i) (blockAt s i) (length-at E opening t none s i (omega arith))
+        held ev er)
 
-    pub text-end : (k : ℕ) {u v : StateX} {room room′ : List ℕ} → (length s ≡ 0 → ⊥) → Held (textAt E opening s t (before s)) room₀ u room
+    pub text-end : (k : ℕ) {u v : StateX} {room room′ : List ℕ} → (length s ≡ 0 → ⊥)
+        → Held (textAt E opening s t (before s)) room₀ u room
         → k ≡ cond (eqb (length s - 16 * before s) 16) 2 3
         → v ≡ heldX (textBlock E opening k (readX u) (part s (16 * before s) (length s - 16 * before s)))
-        → room′ ≡ sets room (16 * before s) (output (part s (16 * before s) (length s - 16 * before s)) (E (value (u .x))))
+        → room′ ≡ sets room (16 * before s)
+        (output (part s (16 * before s) (length s - 16 * before s)) (E (value (u .x))))
         → Held (afterText E opening t s) room₀ v room′
     text-end k {u} {v} {room} {room′} some held ek ev er =
         let ends : part s (16 * before s) (length s - 16 * before s) ≡ last s = last-part s in
         let el : k ≡ cond (full (last s)) 2 3 = ek ∙ ap (λ (n : ℕ). cond (eqb n 16) 2 3) (sym (last-length s)) in
-        subst (λ z. Held z room₀ v room′) (ap (λ (j : ℕ). textBlock E opening j (textAt E opening s t (before s)) (last s)) el ∙ sym (text-some E opening t s some))
-        (block-held (textAt E opening s t (before s)) k (16 * before s) (last s) (length-at E opening t none s (before s) (omega arith)) held
-        (ev ∙ ap (λ l. heldX (textBlock E opening k (readX u) l)) ends) (er ∙ ap (λ l. sets room (16 * before s) (output l (E (value (u .x))))) ends))
+        subst (λ z. Held z room₀ v room′) (ap (λ (j : ℕ). textBlock E opening j (textAt E opening s t (before s))
+        (last s)) el ∙ sym (text-some E opening t s some))
+        (block-held (textAt E opening s t (before s)) k (16 * before s) (last s)
+        (length-at E opening t none s (before s) (omega arith)) held
+        (ev ∙ ap (λ l. heldX (textBlock E opening k (readX u) l)) ends)
+        (er ∙ ap (λ l. sets room (16 * before s) (output l (E (value (u .x))))) ends))
 
 module _ (E : ℕ → ℕ) (opening : Bool) (t : StateX) (s room : List ℕ) (h : t .x .lo < 2 ^ 64) where
   pub text-start : Held (textAt E opening s (readX t) 0) room t room
@@ -116,7 +138,8 @@ module _ (E : ℕ → ℕ) (opening : Bool) (t : StateX) (s room : List ℕ) (h 
 
 -- ---- the wiping
 
-pub wipe-next : (room₀ room : List ℕ) (i : ℕ) → i < length room₀ → room ≡ over (replicate i 0) room₀ → set room i 0 ≡ over (replicate (i + 1) 0) room₀
+pub wipe-next : (room₀ room : List ℕ) (i : ℕ) → i < length room₀ → room ≡ over (replicate i 0) room₀
+    → set room i 0 ≡ over (replicate (i + 1) 0) room₀
 wipe-next room₀ room i h e =
     let l : length {A = ℕ} (replicate i 0) ≡ i = length-replicate i 0 in
     ap₂ (λ (r : List ℕ) (j : ℕ). sets r j (0 ∷ [])) e (sym l) ∙ over-next (replicate i 0) (0 ∷ []) room₀ (omega arith)

@@ -10,8 +10,8 @@ use Rattle.answers.specs.Answers.{Row, Answer, answered, refuse, answer}
 use Rattle.gift.specs.Gift.{encipher}
 use Rattle.mode.specs.Hyena.{outputs, tag}
 
--- of the six lengths: 1 "key has a wrong length", 2 "nonce or iv has a wrong length", 3 "associated data too long", 4 "text or block
--- length not allowed", 5 "tag, or room for it, not 16 bytes", 6 "room too short"
+-- of the six lengths: 1 "key has a wrong length", 2 "nonce or iv has a wrong length", 3 "associated data too long", 4
+-- "text or block length not allowed", 5 "tag, or room for it, not 16 bytes", 6 "room too short"
 abbrev pub rows : ℕ → ℕ → ℕ → ℕ → ℕ → ℕ → List Row
 rows key nonce «data» text tag room =
     record { applies = not (eqb key 16); number = 1 }
@@ -38,7 +38,8 @@ short key nonce text = inputs key nonce [] text
 
 -- with a tag, or room for it, and room for the text
 abbrev pub refusals : Inputs → List ℕ → List ℕ → List Row
-refusals i tag room = rows (length (i .key)) (length (i .nonce)) (length (i .«data»)) (length (i .text)) (length tag) (length room)
+refusals i tag room =
+    rows (length (i .key)) (length (i .nonce)) (length (i .«data»)) (length (i .text)) (length tag) (length room)
 
 -- the memory that sealing writes
 pub record Sealed : Type 0 where
@@ -57,7 +58,9 @@ module _ (cipher : List ℕ → ℕ → ℕ) where
   -- ---- sealing: the number that is answered, and what room and tag hold then
 
   unfoldable pub sealing : Inputs → List ℕ → List ℕ → Answer Sealed
-  sealing i room tag = answer (refusals i tag room) (record { room = over (outputOf false i) room; tag = tagOf false i }) (record { room = room; tag = tag })
+  sealing i room tag =
+      answer (refusals i tag room) (record { room = over (outputOf false i) room; tag = tagOf false i })
+      (record { room = room; tag = tag })
 
   -- the promise: r is answered, and room′ and tag′ are left
   abbrev pub Sealing : ℕ → Inputs → List ℕ → List ℕ → List ℕ → List ℕ → Type 0
@@ -67,8 +70,8 @@ module _ (cipher : List ℕ → ℕ → ℕ) where
   abbrev pub wrongTag : Inputs → List ℕ → List Row
   wrongTag i tag = record { applies = not (eqb (number tag) (number (tagOf true i))); number = 7 } ∷ []
 
-  -- the number that is answered, and what room holds then: with 7 "first bytes of the room, as many as the ciphertext has, are
-  -- each 0; the rest unchanged"
+  -- the number that is answered, and what room holds then: with 7 "first bytes of the room, as many as the ciphertext
+  -- has, are each 0; the rest unchanged"
   unfoldable pub opening : Inputs → List ℕ → List ℕ → Answer (List ℕ)
   opening i tag room =
       refuse (refusals i tag room) room

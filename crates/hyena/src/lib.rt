@@ -26,7 +26,8 @@ pub fn seal(
     room: &mut [u8],
     tag: &mut [u8],
 ) -> u32
-    ensures { λ r. ⌜ Sealing gift r (inputs (now (key .entry)) (now (nonce .entry)) (now («data» .entry)) (now (text .entry))) (now (room .entry)) (now (tag .entry)) (now (room .exit)) (now (tag .exit)) ⌝ }
+    ensures { λ r. ⌜ Sealing gift r (inputs (now (key .entry)) (now (nonce .entry)) (now («data» .entry))
+        (now (text .entry))) (now (room .entry)) (now (tag .entry)) (now (room .exit)) (now (tag .exit)) ⌝ }
 {
     let refused = refusal(
         key.len(),
@@ -54,7 +55,8 @@ pub fn open(
     tag: &[u8],
     room: &mut [u8],
 ) -> u32
-    ensures { λ r. ⌜ Opening gift r (inputs (now (key .entry)) (now (nonce .entry)) (now («data» .entry)) (now (ciphertext .entry))) (now (tag .entry)) (now (room .entry)) (now (room .exit)) ⌝ }
+    ensures { λ r. ⌜ Opening gift r (inputs (now (key .entry)) (now (nonce .entry)) (now («data» .entry))
+        (now (ciphertext .entry))) (now (tag .entry)) (now (room .entry)) (now (room .exit)) ⌝ }
 {
     let refused = refusal(
         key.len(),
@@ -80,14 +82,16 @@ const SHORT_DATA: [u8; 0] = [];
 
 // Seals with the associated data of the short form, which is empty; otherwise `seal`.
 pub fn seal_short(key: &[u8], nonce: &[u8], text: &[u8], room: &mut [u8], tag: &mut [u8]) -> u32
-    ensures { λ r. ⌜ Sealing gift r (short (now (key .entry)) (now (nonce .entry)) (now (text .entry))) (now (room .entry)) (now (tag .entry)) (now (room .exit)) (now (tag .exit)) ⌝ }
+    ensures { λ r. ⌜ Sealing gift r (short (now (key .entry)) (now (nonce .entry)) (now (text .entry)))
+        (now (room .entry)) (now (tag .entry)) (now (room .exit)) (now (tag .exit)) ⌝ }
 {
     seal(key, nonce, &SHORT_DATA, text, room, tag)
 }
 
 // Opens with the associated data of the short form, which is empty; otherwise `open`.
 pub fn open_short(key: &[u8], nonce: &[u8], ciphertext: &[u8], tag: &[u8], room: &mut [u8]) -> u32
-    ensures { λ r. ⌜ Opening gift r (short (now (key .entry)) (now (nonce .entry)) (now (ciphertext .entry))) (now (tag .entry)) (now (room .entry)) (now (room .exit)) ⌝ }
+    ensures { λ r. ⌜ Opening gift r (short (now (key .entry)) (now (nonce .entry)) (now (ciphertext .entry)))
+        (now (tag .entry)) (now (room .entry)) (now (room .exit)) ⌝ }
 {
     open(key, nonce, &SHORT_DATA, ciphertext, tag, room)
 }
@@ -107,8 +111,11 @@ fn refusal(key: usize, nonce: usize, data: usize, text: usize, tag: usize, room:
 // Both ways, where nothing is refused: writes what comes out to room, as far as that goes, and answers the tag.
 fn run(opening: bool, key: &[u8], nonce: &[u8], data: &[u8], text: &[u8], room: &mut [u8]) -> Block
     requires { ⌜ (length (now key) ≡ 16) × (length (now nonce) ≡ 12) ⌝ }
-    ensures { λ r. ⌜ (r ≡ halves (tag (gift (now (key .entry))) opening (now (nonce .entry)) (now («data» .entry)) (now (text .entry))))
-        × (now (room .exit) ≡ sets (now (room .entry)) 0 (outputs (gift (now (key .entry))) opening (now (nonce .entry)) (now («data» .entry)) (now (text .entry)))) ⌝ }
+    ensures { λ r. ⌜ (r ≡ halves (tag (gift (now (key .entry))) opening (now (nonce .entry)) (now («data» .entry))
+        (now (text .entry))))
+        × (now (room .exit) ≡ sets (now (room .entry)) 0
+        (outputs (gift (now (key .entry))) opening (now (nonce .entry)) (now («data» .entry))
+        (now (text .entry)))) ⌝ }
 {
     let e = hyena_blocks::keyed::keyed_of(words::load(key, 0, 16));
     let s = hyena_blocks::start(e, nonce, data.len(), text.len());
@@ -143,7 +150,8 @@ fn all_data(e: Keyed, b: StateY, data: &[u8]) -> StateX
 // All of the text. What comes out goes to room; what that is too short for is not written.
 fn all_text(opening: bool, e: Keyed, t: StateX, text: &[u8], room: &mut [u8]) -> StateX
     ensures { λ r. ⌜ (r ≡ heldX (afterText (enciphers e) opening (readX t) (now (text .entry))))
-        × (now (room .exit) ≡ sets (now (room .entry)) 0 (afterText (enciphers e) opening (readX t) (now (text .entry)) .out)) ⌝ }
+        × (now (room .exit) ≡ sets (now (room .entry)) 0
+        (afterText (enciphers e) opening (readX t) (now (text .entry)) .out)) ⌝ }
 {
     if text.len() == 0 {
         return t;
@@ -172,7 +180,8 @@ fn text_part(
 ) -> StateX
     requires { ⌜ (n ≤ 16) × (at + n ≤ length (now text)) ⌝ }
     ensures { λ r. ⌜ (r ≡ heldX (textBlock (enciphers e) opening k (readX t) (part (now (text .entry)) at n)))
-        × (now (room .exit) ≡ sets (now (room .entry)) at (output (part (now (text .entry)) at n) (enciphers e (value (t .x))))) ⌝ }
+        × (now (room .exit) ≡ sets (now (room .entry)) at (output (part (now (text .entry)) at n)
+        (enciphers e (value (t .x))))) ⌝ }
 {
     let u = hyena_blocks::text_block(opening, e, t, k, words::load(text, at, n), n);
     words::store(room, at, n, u.out);

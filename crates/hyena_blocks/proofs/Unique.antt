@@ -15,13 +15,16 @@ use Rattle.hyena_blocks.specs.Steps.{keyed, started, dataFed, dataEnded,
 pub keyed-of-unique : (key : Block) {r s : Keyed} → r ≡ keyed (value key) → s ≡ keyed (value key) → r ≡ s
 keyed-of-unique key = same
 
-pub start-unique : (e : Keyed) (nonce : List ℕ) (a d : ℕ) {r s : StateY} → r ≡ started e nonce a d → s ≡ started e nonce a d → r ≡ s
+pub start-unique : (e : Keyed) (nonce : List ℕ) (a d : ℕ) {r s : StateY} → r ≡ started e nonce a d
+    → s ≡ started e nonce a d → r ≡ s
 start-unique e nonce a d = same
 
-pub data-block-unique : (e : Keyed) (b : StateY) (d : Block) {r s : StateY} → r ≡ dataFed e b d → s ≡ dataFed e b d → r ≡ s
+pub data-block-unique : (e : Keyed) (b : StateY) (d : Block) {r s : StateY} → r ≡ dataFed e b d → s ≡ dataFed e b d
+    → r ≡ s
 data-block-unique e b d = same
 
-pub data-last-unique : (b : StateY) (k : ℕ) (d : Block) (n : ℕ) {r s : StateX} → r ≡ dataEnded b k d n → s ≡ dataEnded b k d n → r ≡ s
+pub data-last-unique : (b : StateY) (k : ℕ) (d : Block) (n : ℕ) {r s : StateX} → r ≡ dataEnded b k d n
+    → s ≡ dataEnded b k d n → r ≡ s
 data-last-unique b k d n = same
 
 pub text-block-unique : (opening : Bool) (e : Keyed) (t : StateX) (k : ℕ) (d : Block) (n : ℕ) {r s : Fed}

@@ -13,9 +13,11 @@ use Rattle.words.proofs.Tests.{cond-has}
 use Rattle.lioness.specs.Lioness.{piece, left, right, streamStep, digestStep, step, steps}
 
 module _ (S : List ℕ → List ℕ → List ℕ → List ℕ) (H : List ℕ → List ℕ → List ℕ)
-    (undoes : (k n t : List ℕ) → S k n (S k n t) ≡ t) (keeps : (k n t : List ℕ) → length (S k n t) ≡ length t) (key iv : List ℕ) where
+    (undoes : (k n t : List ℕ) → S k n (S k n t) ≡ t) (keeps : (k n t : List ℕ) → length (S k n t) ≡ length t)
+    (key iv : List ℕ) where
   -- two parts as long as those of a block
-  parts : (b l r : List ℕ) → 32 ≤ length b → length l ≡ length (left b) → length r ≡ length (right b) → length (l ++ r) ≡ length b
+  parts : (b l r : List ℕ) → 32 ≤ length b → length l ≡ length (left b) → length r ≡ length (right b)
+      → length (l ++ r) ≡ length b
   parts b l r h el er = rw (length-append, el, er, length-take-le 32 b h, length-drop) (omega arith)
 
   length-step : (j : ℕ) (b : List ℕ) → 32 ≤ length b → length (step S H key iv j b) ≡ length b
@@ -47,7 +49,8 @@ module _ (S : List ℕ → List ℕ → List ℕ → List ℕ) (H : List ℕ →
   unfolding step
   step-twice j b h = by (eqb (j % 2) 1)
     where
-      by : (t : Bool) → cond t (streamStep S key iv j (cond t (streamStep S key iv j b) (digestStep H key iv j b))) (digestStep H key iv j (cond t (streamStep S key iv j b) (digestStep H key iv j b))) ≡ b
+      by : (t : Bool) → cond t (streamStep S key iv j (cond t (streamStep S key iv j b) (digestStep H key iv j b)))
+          (digestStep H key iv j (cond t (streamStep S key iv j b) (digestStep H key iv j b))) ≡ b
       by true = stream-twice j b h
       by false = digest-twice j b h
 

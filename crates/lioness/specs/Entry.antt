@@ -29,7 +29,8 @@ rows key iv block =
 
 -- the number that is answered, and the bytes of the block then, after four steps in this order
 unfoldable pub ordered : ℕ → ℕ → ℕ → ℕ → List ℕ → List ℕ → List ℕ → Answer (List ℕ)
-ordered a b c d key iv block = answer (rows (length key) (length iv) (length block)) (steps chacha blake key iv a b c d block) block
+ordered a b c d key iv block =
+    answer (rows (length key) (length iv) (length block)) (steps chacha blake key iv a b c d block) block
 
 abbrev pub enciphering : List ℕ → List ℕ → List ℕ → Answer (List ℕ)
 enciphering key iv block = ordered 1 2 3 4 key iv block

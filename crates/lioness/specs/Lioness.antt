@@ -1,5 +1,6 @@
--- LIONESS, as document 01's section of that name fixes it; the sentences in quotes are its own. It stands over any stream S
--- (of key, nonce and text) and any hash H (of key and text). Blocks are lists of bytes. "Sums here are by exclusive or."
+-- LIONESS, as document 01's section of that name fixes it; the sentences in quotes are its own. It stands over any
+-- stream S (of key, nonce and text) and any hash H (of key and text). Blocks are lists of bytes. "Sums here are by
+-- exclusive or."
 use Prim.Native.Nat.{ℕ, _-_, _*_, _%_}
 use mathlib.Core.Bool.{cond}
 use mathlib.Core.List.{List, _++_}

@@ -27,7 +27,8 @@ pub fn decipher(key: &[u8], iv: &[u8], block: &mut [u8]) -> u32
 // Both entry points: the four steps in an order.
 fn in_order(a: usize, b: usize, c: usize, d: usize, key: &[u8], iv: &[u8], block: &mut [u8]) -> u32
     requires { ⌜ Step a × Step b × Step c × Step d ⌝ }
-    ensures { λ r. ⌜ answered r (now (block .exit)) ≡ ordered a b c d (now (key .entry)) (now (iv .entry)) (now (block .entry)) ⌝ }
+    ensures { λ r. ⌜ answered r (now (block .exit))
+        ≡ ordered a b c d (now (key .entry)) (now (iv .entry)) (now (block .entry)) ⌝ }
 {
     let refused = refusal(key.len(), iv.len(), block.len());
     if refused != 0 {
@@ -41,7 +42,8 @@ fn in_order(a: usize, b: usize, c: usize, d: usize, key: &[u8], iv: &[u8], block
 // sums for these lengths and not for any.
 fn four_steps(a: usize, b: usize, c: usize, d: usize, key: &[u8], iv: &[u8], block: &mut [u8])
     requires { ⌜ Step a × Step b × Step c × Step d × Allowed (now key) (now iv) (now block) ⌝ }
-    ensures { λ _. ⌜ now (block .exit) ≡ steps chacha blake (now (key .entry)) (now (iv .entry)) a b c d (now (block .entry)) ⌝ }
+    ensures { λ _. ⌜ now (block .exit) ≡ steps chacha blake (now (key .entry)) (now (iv .entry)) a b c d
+        (now (block .entry)) ⌝ }
 {
     step_of(a, key, iv, block);
     step_of(b, key, iv, block);
@@ -61,7 +63,8 @@ fn refusal(key: usize, iv: usize, block: usize) -> u32
 // Step j.
 fn step_of(j: usize, key: &[u8], iv: &[u8], block: &mut [u8])
     requires { ⌜ Step j × Allowed (now key) (now iv) (now block) ⌝ }
-    ensures { λ _. ⌜ now (block .exit) ≡ step chacha blake (now (key .entry)) (now (iv .entry)) j (now (block .entry)) ⌝ }
+    ensures { λ _. ⌜ now (block .exit) ≡ step chacha blake (now (key .entry)) (now (iv .entry)) j
+        (now (block .entry)) ⌝ }
 {
     if j % 2 == 1 {
         stream_step(j, key, iv, block);
@@ -73,7 +76,8 @@ fn step_of(j: usize, key: &[u8], iv: &[u8], block: &mut [u8])
 // Enciphers R there in the caller's buffer.
 fn stream_step(j: usize, key: &[u8], iv: &[u8], block: &mut [u8])
     requires { ⌜ Step j × Allowed (now key) (now iv) (now block) ⌝ }
-    ensures { λ _. ⌜ now (block .exit) ≡ streamStep chacha (now (key .entry)) (now (iv .entry)) j (now (block .entry)) ⌝ }
+    ensures { λ _. ⌜ now (block .exit) ≡ streamStep chacha (now (key .entry)) (now (iv .entry)) j
+        (now (block .entry)) ⌝ }
 {
     let k = stream_key(j, key, &block[..32]);
     let at = 12 * (j - 1);
@@ -84,7 +88,8 @@ fn stream_step(j: usize, key: &[u8], iv: &[u8], block: &mut [u8])
 // Adds the digest of R to L.
 fn digest_step(j: usize, key: &[u8], iv: &[u8], block: &mut [u8])
     requires { ⌜ Step j × Allowed (now key) (now iv) (now block) ⌝ }
-    ensures { λ _. ⌜ now (block .exit) ≡ digestStep blake (now (key .entry)) (now (iv .entry)) j (now (block .entry)) ⌝ }
+    ensures { λ _. ⌜ now (block .exit) ≡ digestStep blake (now (key .entry)) (now (iv .entry)) j
+        (now (block .entry)) ⌝ }
 {
     let k = digest_key(j, key, iv);
     let mut d = [0u8; 64];

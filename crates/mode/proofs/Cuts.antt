@@ -42,7 +42,8 @@ fronts c d (suc n) h =
     cut s = ap (λ (k : ℕ). take k s) (mul-suc 16 n) ∙ take-add (16 * n) 16 s
 
 -- a list is known by its blocks
-pub joined-again : (c d : List ℕ) → before c ≡ before d → ((i : ℕ) → i < before c → blockAt c i ≡ blockAt d i) → last c ≡ last d → c ≡ d
+pub joined-again : (c d : List ℕ) → before c ≡ before d → ((i : ℕ) → i < before c → blockAt c i ≡ blockAt d i)
+    → last c ≡ last d → c ≡ d
 joined-again c d n h e =
     sym (take-append-drop (16 * before c) c)
     ∙ ap₂ _++_ (fronts c d (before c) h ∙ ap (λ (k : ℕ). take (16 * k) d) n) e
@@ -66,9 +67,12 @@ module _ {A B : Type 0} (each : A → List ℕ → A) (final : A → List ℕ �
   walk-alike t c d n h =
       ap (λ (u : A). final u (last d))
       (ap (walked each d t) (sym n)
-      ∙ sym (iterate-same (λ i u. each u (blockAt c i)) (λ i u. each u (blockAt d i)) (before c) t (λ i u l. ap (each u) (h i l))))
+      ∙ sym (iterate-same (λ i u. each u (blockAt c i)) (λ i u. each u (blockAt d i)) (before c) t
+      (λ i u l. ap (each u) (h i l))))
 
 -- what each step keeps on blocks of bytes, n of them keep
-pub walk-keeps : {A : Type 0} (each : A → List ℕ → A) (P : A → Type 0) → ((t : A) (d : List ℕ) → P t → Bytes d → P (each t d))
+pub walk-keeps : {A : Type 0} (each : A → List ℕ → A) (P : A → Type 0)
+    → ((t : A) (d : List ℕ) → P t → Bytes d → P (each t d))
     → (t : A) (s : List ℕ) (n : ℕ) → P t → Bytes s → P (walked each s t n)
-walk-keeps each P keep t s n h hs = iterate-keep P (λ i u. each u (blockAt s i)) (λ i u p. keep u (blockAt s i) p (block-bytes s i hs)) n t h
+walk-keeps each P keep t s n h hs =
+    iterate-keep P (λ i u. each u (blockAt s i)) (λ i u p. keep u (blockAt s i) p (block-bytes s i hs)) n t h

@@ -1,6 +1,6 @@
--- The definitions computed: sealing and opening over a toy block function, against the second implementation, which holds the same
--- table. This refuses what no theorem over every block function can: a tag without the swap, b1 set whenever the text is empty, an
--- extra padding block, all 16 bytes of Y added in a partial block.
+-- The definitions computed: sealing and opening over a toy block function, against the second implementation, which
+-- holds the same table. This refuses what no theorem over every block function can: a tag without the swap, b1 set
+-- whenever the text is empty, an extra padding block, all 16 bytes of Y added in a partial block.
 use mathlib.Core.Path.{_≡_, refl}
 use mathlib.Core.Bool.{Bool, true, false}
 use mathlib.Core.List.{List, [], _∷_}
@@ -10,7 +10,8 @@ use lib.Bits.{bitXor}
 use Rattle.words.specs.Bytes.{number, bytes, filled, plus}
 use Rattle.words.specs.Iterate.{iterate}
 use Rattle.mode.specs.Demands.{Alike}
-use Rattle.mode.specs.Hyena.{double, walk, output, feedback, feed, startBlock, dataFirst, dataEach, dataLast, afterData, textBlock, afterText, swapped, ended, outputs, tag}
+use Rattle.mode.specs.Hyena.{double, walk, output, feedback, feed, startBlock, dataFirst, dataEach, dataLast}
+use Rattle.mode.specs.Hyena.{afterData, textBlock, afterText, swapped, ended, outputs, tag}
 
 toy : ℕ → ℕ
 toy x = bitXor ((x * 0x9E3779B97F4A7C15F39CC0605CEDC835 + 0x1234567) % 2 ^ 128) 0xDEADBEEF
@@ -62,9 +63,17 @@ vectors : _≡_ {A = List (List ℕ)}
     ∷ (number (text 32) ∷ 0xB0A018DEF388FB864A900722CC7EE941 ∷ [])
     ∷ []
     )
-unfolding both text nonce count toy outputs tag ended startBlock dataFirst dataEach dataLast afterData textBlock afterText walk feed feedback output swapped double iterate plus number bytes filled
+unfolding both text nonce count toy outputs tag ended startBlock dataFirst dataEach dataLast afterData textBlock
+    afterText walk feed feedback output swapped double iterate plus number bytes filled
 vectors = refl
 
 -- demand 3 speaks of something
 some-alike : Alike (1 ∷ []) (2 ∷ [])
-some-alike = record { some-c = λ e. omega (arith, e); some-d = λ e. omega (arith, e); as-many = refl; equal = λ i h. absurd (omega arith); ends = refl }
+some-alike =
+    record {
+      some-c = λ e. omega (arith, e);
+      some-d = λ e. omega (arith, e);
+      as-many = refl;
+      equal = λ i h. absurd (omega arith);
+      ends = refl;
+    }

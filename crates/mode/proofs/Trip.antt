@@ -14,7 +14,9 @@ use Rattle.words.specs.Bytes.{bytes}
 use Rattle.words.specs.Iterate.{iterate}
 use Rattle.words.proofs.Plus.{length-plus, plus-twice}
 use Rattle.words.proofs.Tests.{cond-has}
-use Rattle.mode.specs.Hyena.{StateY, StateX, before, blockAt, last, full, empty, walk, output, feed, startBlock, dataFirst, dataLast, afterData, textBlock, textAt, afterText, begun, ended, outputs, tag, swapped}
+use Rattle.mode.specs.Hyena.{StateY, StateX, before, blockAt, last, full, empty, walk, output, feed, startBlock}
+use Rattle.mode.specs.Hyena.{dataFirst, dataLast, afterData, textBlock, textAt, afterText, begun, ended, outputs}
+use Rattle.mode.specs.Hyena.{tag, swapped}
 use Rattle.mode.proofs.Cuts.{block-length, last-length, before-append, last-append}
 
 pub length-output : (d : List ℕ) (y : ℕ) → length (output d y) ≡ length d
@@ -30,13 +32,16 @@ module _ (E : ℕ → ℕ) (opening : Bool) where
 
   length-out : (k : ℕ) (t : StateX) (d : List ℕ) → length (textBlock E opening k t d .out) ≡ length (t .out) + length d
   length-out k t d =
-      ap length (block-out k t d) ∙ length-append (t .out) (output d (E (t .X))) ∙ ap (λ (n : ℕ). length (t .out) + n) (length-output d (E (t .X)))
+      ap length (block-out k t d) ∙ length-append (t .out) (output d (E (t .X)))
+      ∙ ap (λ (n : ℕ). length (t .out) + n) (length-output d (E (t .X)))
 
   pub text-none : (t : StateX) (s : List ℕ) → length s ≡ 0 → afterText E opening t s ≡ t
   unfolding afterText
   text-none t s e = rw (eq-eqb (length s) 0 e)
 
-  pub text-some : (t : StateX) (s : List ℕ) → (length s ≡ 0 → ⊥) → afterText E opening t s ≡ textBlock E opening (cond (full (last s)) 2 3) (textAt E opening s t (before s)) (last s)
+  pub text-some : (t : StateX) (s : List ℕ) → (length s ≡ 0 → ⊥)
+      → afterText E opening t s ≡ textBlock E opening (cond (full (last s)) 2 3) (textAt E opening s t (before s))
+      (last s)
   unfolding afterText walk
   text-some t s h = rw (ne-eqb (length s) 0 h)
 
@@ -44,7 +49,14 @@ module _ (E : ℕ → ℕ) (opening : Bool) where
     pub length-at : (i : ℕ) → i ≤ before s → length (textAt E opening s t i .out) ≡ 16 * i
     unfolding iterate
     length-at zero h = ap length none
-    length-at (suc i) h = omega (arith, length-out 1 (textAt E opening s t i) (blockAt s i), length-at i (omega arith), block-length s i h)
+    length-at (suc i) h =
+        omega (
+          arith,
+          length-out 1 (textAt E opening s t i) (blockAt s i),
+          length-at i (omega arith),
+          block-length s i
+              h,
+        )
 
     pub length-text : length (afterText E opening t s .out) ≡ length s
     length-text =
@@ -53,13 +65,20 @@ module _ (E : ℕ → ℕ) (opening : Bool) where
           | no n ↦
               let k : ℕ = cond (full (last s)) 2 3 in
               ap (λ (u : StateX). length (u .out)) (text-some t s n)
-              ∙ omega (arith, length-out k (textAt E opening s t (before s)) (last s), length-at (before s) (omega arith), last-length s)
+              ∙ omega (
+                arith,
+                length-out k (textAt E opening s t (before s)) (last s),
+                length-at (before s)
+                    (omega arith),
+                last-length s,
+              )
         ]
 
 -- ---- either way undoes the other
 
 module _ (E : ℕ → ℕ) (opening : Bool) where
-  -- a block that went one way goes the other way, from the same state: the block comes back, and the next state is the same
+  -- a block that went one way goes the other way, from the same state: the block comes back, and the next state is the
+  -- same
   block-trip : (k : ℕ) (t : StateX) (o d : List ℕ)
       → textBlock E (not opening) k (record { X = t .X; Δ = t .Δ; out = o }) (output d (E (t .X)))
       ≡ record { X = textBlock E opening k t d .X; Δ = textBlock E opening k t d .Δ; out = o ++ d }
@@ -72,7 +91,8 @@ module _ (E : ℕ → ℕ) (opening : Bool) where
 
     -- whatever follows what came out so far
     blocks-trip : (i : ℕ) (r : List ℕ) → i ≤ before m
-        → textAt E (not opening) (thereAt i .out ++ r) t i ≡ record { X = thereAt i .X; Δ = thereAt i .Δ; out = take (16 * i) m }
+        → textAt E (not opening) (thereAt i .out ++ r) t i
+        ≡ record { X = thereAt i .X; Δ = thereAt i .Δ; out = take (16 * i) m }
     unfolding thereAt iterate
     blocks-trip zero r h = ap (λ (o : List ℕ). record { X = t .X; Δ = t .Δ; out = o }) none
     blocks-trip (suc i) r h =
@@ -92,15 +112,18 @@ module _ (E : ℕ → ℕ) (opening : Bool) where
     back : StateX → StateX
     back u = record { X = u .X; Δ = u .Δ; out = m }
 
-    none-trip : length m ≡ 0 → afterText E (not opening) t (afterText E opening t m .out) ≡ back (afterText E opening t m)
+    none-trip : length m ≡ 0 → afterText E (not opening) t (afterText E opening t m .out)
+        ≡ back (afterText E opening t m)
     unfolding back
     none-trip e =
         let q = text-none E opening t m e in
         ap (λ (u : StateX). afterText E (not opening) t (u .out)) q
         ∙ text-none E (not opening) t (t .out) (ap length none)
-        ∙ ap₂ (λ (u : StateX) (o : List ℕ). record { X = u .X; Δ = u .Δ; out = o }) (sym q) (none ∙ take-all 0 m (omega arith))
+        ∙ ap₂ (λ (u : StateX) (o : List ℕ). record { X = u .X; Δ = u .Δ; out = o }) (sym q)
+        (none ∙ take-all 0 m (omega arith))
 
-    some-trip : (length m ≡ 0 → ⊥) → afterText E (not opening) t (afterText E opening t m .out) ≡ back (afterText E opening t m)
+    some-trip : (length m ≡ 0 → ⊥) → afterText E (not opening) t (afterText E opening t m .out)
+        ≡ back (afterText E opening t m)
     unfolding back thereAt
     some-trip some =
         let n = before m in
@@ -118,11 +141,14 @@ module _ (E : ℕ → ℕ) (opening : Bool) where
         ap (λ (z : StateX). afterText E (not opening) t (z .out)) q
         ∙ ap (afterText E (not opening) t) (block-out E opening k u l)
         ∙ text-some E (not opening) t (u .out ++ c) nothing
-        ∙ ap₂ (λ (i : ℕ) (z : List ℕ). textBlock E (not opening) (cond (full z) 2 3) (textAt E (not opening) (u .out ++ c) t i) z)
+        ∙ ap₂ (λ (i : ℕ) (z : List ℕ). textBlock E (not opening) (cond (full z) 2 3)
+        (textAt E (not opening) (u .out ++ c) t i) z)
         (before-append (u .out) c n lu low high) (last-append (u .out) c n lu low high)
-        ∙ ap₂ (λ (b : Bool) (z : StateX). textBlock E (not opening) (cond b 2 3) z c) (ap (λ (i : ℕ). eqb i 16) lc) (blocks-trip n c (omega arith))
+        ∙ ap₂ (λ (b : Bool) (z : StateX). textBlock E (not opening) (cond b 2 3) z c) (ap (λ (i : ℕ). eqb i 16) lc)
+        (blocks-trip n c (omega arith))
         ∙ block-trip k u (take (16 * n) m) l
-        ∙ ap₂ (λ (z : StateX) (o : List ℕ). record { X = z .X; Δ = z .Δ; out = o }) (sym q) (take-append-drop (16 * n) m)
+        ∙ ap₂ (λ (z : StateX) (o : List ℕ). record { X = z .X; Δ = z .Δ; out = o }) (sym q)
+        (take-append-drop (16 * n) m)
 
     text-trip : afterText E (not opening) t (afterText E opening t m .out) ≡ back (afterText E opening t m)
     text-trip = elim (ℕ-discrete (length m) 0) [ yes n ↦ none-trip n | no n ↦ some-trip n ]
@@ -142,15 +168,17 @@ module _ (E : ℕ → ℕ) (opening : Bool) (nonce a : List ℕ) where
   length-outputs d = length-text E opening (begun E nonce a (length d)) (begun-out (length d)) d
 
   ended-trip : (m : List ℕ)
-      → ended E (not opening) nonce a (outputs E opening nonce a m) ≡ record { X = ended E opening nonce a m .X; Δ = ended E opening nonce a m .Δ; out = m }
+      → ended E (not opening) nonce a (outputs E opening nonce a m)
+      ≡ record { X = ended E opening nonce a m .X; Δ = ended E opening nonce a m .Δ; out = m }
   unfolding ended outputs back
   ended-trip m =
       ap (λ (n : ℕ). afterText E (not opening) (begun E nonce a n) (outputs E opening nonce a m)) (length-outputs m)
       ∙ text-trip E opening (begun E nonce a (length m)) (begun-out (length m)) m
 
-  -- what went one way comes back the other way, and the tag is the same: opening what was sealed gives the text, sealing what was
-  -- opened the ciphertext
+  -- what went one way comes back the other way, and the tag is the same: opening what was sealed gives the text,
+  -- sealing what was opened the ciphertext
   pub round-trip : (m : List ℕ)
-      → (outputs E (not opening) nonce a (outputs E opening nonce a m) ≡ m) × (tag E (not opening) nonce a (outputs E opening nonce a m) ≡ tag E opening nonce a m)
+      → (outputs E (not opening) nonce a (outputs E opening nonce a m) ≡ m)
+      × (tag E (not opening) nonce a (outputs E opening nonce a m) ≡ tag E opening nonce a m)
   unfolding outputs tag
   round-trip m = (ap (λ (t : StateX). t .out) (ended-trip m), ap (λ (t : StateX). E (swapped (t .X))) (ended-trip m))

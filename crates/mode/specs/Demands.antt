@@ -10,8 +10,8 @@ pub record Inverted (E D : ℕ → ℕ) : Type 0 where
   pub block : (x : ℕ) → x < 2 ^ 128 → E x < 2 ^ 128
   pub undone : (x : ℕ) → x < 2 ^ 128 → D (E x) ≡ x
 
--- "two non-empty ciphertexts .. with as many 16-byte blocks, equal in every block before the last, last blocks both full or both
--- partial"
+-- "two non-empty ciphertexts .. with as many 16-byte blocks, equal in every block before the last, last blocks both
+-- full or both partial"
 pub record Alike (c d : List ℕ) : Type 0 where
   pub some-c : length c ≡ 0 → ⊥
   pub some-d : length d ≡ 0 → ⊥

@@ -1,6 +1,6 @@
 -- HyENA, as document 01's section of that name fixes it; the sentences in quotes are its own. It stands over any block
--- function E. Blocks are numbers below 2 ^ 128, masks below 2 ^ 64, texts lists of bytes. The direction is a Bool, true for
--- opening. "All sums in this section are by exclusive or."
+-- function E. Blocks are numbers below 2 ^ 128, masks below 2 ^ 64, texts lists of bytes. The direction is a Bool, true
+-- for opening. "All sums in this section are by exclusive or."
 use Prim.Native.Nat.{ℕ, _+_, _-_, _*_, _/_, _%_, _^_}
 use mathlib.Core.Bool.{Bool, false, cond}
 use mathlib.Core.List.{List, [], _++_}
@@ -67,16 +67,16 @@ walk each final t s = final (walked each s t (before s)) (last s)
 unfoldable pub output : List ℕ → ℕ → List ℕ
 output d y = plus d (bytes 16 y)
 
--- "Let M be the text side and C the cipher side. The new state X is Y plus the block with upper half Pad(M)L and lower half
--- Pad(C)R plus Δ."
+-- "Let M be the text side and C the cipher side. The new state X is Y plus the block with upper half Pad(M)L and lower
+-- half Pad(C)R plus Δ."
 unfoldable pub feedback : ℕ → ℕ → List ℕ → List ℕ → ℕ
 feedback y Δ m c = bitXor y (joined (upper (number (pad m))) (bitXor (lower (number (pad c))) Δ))
 
 unfoldable pub feed : Bool → ℕ → ℕ → List ℕ → ℕ
 feed opening y Δ d = feedback y Δ (cond opening (output d y) d) (cond opening d (output d y))
 
--- ---- "Start: Y = E(nonce in the top 96 bits, then zeros, then b1, b0). b0 is 1 when the associated data is empty, b1 when text
--- is empty too. In opening, ciphertext length stands for text length."
+-- ---- "Start: Y = E(nonce in the top 96 bits, then zeros, then b1, b0). b0 is 1 when the associated data is empty, b1
+-- when text is empty too. In opening, ciphertext length stands for text length."
 
 -- of the nonce and the two lengths
 unfoldable pub startBlock : List ℕ → ℕ → ℕ → ℕ
@@ -116,24 +116,29 @@ module _ (E : ℕ → ℕ) where
   abbrev pub dataAt : List ℕ → StateY → ℕ → StateY
   dataAt a f i = walked dataEach a f i
 
-  -- "If empty, double twice more and feed the block with value 1. Otherwise for each block but the last .. For the last: double
-  -- once if full, twice if partial, then feed."
+  -- "If empty, double twice more and feed the block with value 1. Otherwise for each block but the last .. For the
+  -- last: double once if full, twice if partial, then feed."
   unfoldable pub afterData : StateY → List ℕ → StateX
-  afterData f a = cond (empty a) (dataLast 2 f (bytes 16 1)) (walk dataEach (λ g d. dataLast (cond (full d) 1 2) g d) f a)
+  afterData f a =
+      cond (empty a) (dataLast 2 f (bytes 16 1)) (walk dataEach (λ g d. dataLast (cond (full d) 1 2) g d) f a)
 
   -- ---- "Text, if not empty"
 
   -- double k times, "Y = E(X), feed"
   unfoldable pub textBlock : Bool → ℕ → StateX → List ℕ → StateX
   textBlock opening k t d =
-      record { X = feed opening (E (t .X)) (doubles k (t .Δ)) d; Δ = doubles k (t .Δ); out = t .out ++ output d (E (t .X)) }
+      record {
+        X = feed opening (E (t .X)) (doubles k (t .Δ)) d;
+        Δ = doubles k (t .Δ);
+        out = t .out ++ output d (E (t .X));
+      }
 
   -- the state before block i
   abbrev pub textAt : Bool → List ℕ → StateX → ℕ → StateX
   textAt opening s t i = walked (textBlock opening 1) s t i
 
-  -- "for each block but the last: double Δ, Y = E(X), feed. For the last: double twice if full, three times if partial, Y = E(X),
-  -- feed."
+  -- "for each block but the last: double Δ, Y = E(X), feed. For the last: double twice if full, three times if partial,
+  -- Y = E(X), feed."
   unfoldable pub afterText : Bool → StateX → List ℕ → StateX
   afterText opening t s =
       cond (empty s) t (walk (textBlock opening 1) (λ u d. textBlock opening (cond (full d) 2 3) u d) t s)

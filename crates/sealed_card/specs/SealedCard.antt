@@ -16,8 +16,9 @@ cardOf i = i .nonce ++ bytes 2 (length (i .text)) ++ outputOf gift false i ++ ta
 
 -- ---- sealing
 
--- of the five lengths: 1 "key has a wrong length", 2 "nonce or iv has a wrong length", 3 "associated data too long", 4 "text or block
--- length not allowed" (two bytes count to 65,535), 6 "room too short" for the text and the 30 bytes around it
+-- of the five lengths: 1 "key has a wrong length", 2 "nonce or iv has a wrong length", 3 "associated data too long", 4
+-- "text or block length not allowed" (two bytes count to 65,535), 6 "room too short" for the text and the 30 bytes
+-- around it
 abbrev pub sealRows : ℕ → ℕ → ℕ → ℕ → ℕ → List Row
 sealRows key nonce «data» text room =
     record { applies = not (eqb key 16); number = 1 }
@@ -29,7 +30,9 @@ sealRows key nonce «data» text room =
 
 -- the number that is answered, and what the room holds then
 unfoldable pub sealing : Inputs → List ℕ → Answer (List ℕ)
-sealing i room = answer (sealRows (length (i .key)) (length (i .nonce)) (length (i .«data»)) (length (i .text)) (length room)) (over (cardOf i) room) room
+sealing i room =
+    answer (sealRows (length (i .key)) (length (i .nonce)) (length (i .«data»)) (length (i .text)) (length room))
+    (over (cardOf i) room) room
 
 abbrev pub Sealing : ℕ → Inputs → List ℕ → List ℕ → Type 0
 Sealing r i room room′ = answered r room′ ≡ sealing i room
@@ -49,7 +52,8 @@ ciphertextIn card = part card 14 (lengthIn card)
 abbrev pub tagIn : List ℕ → List ℕ
 tagIn card = drop (14 + lengthIn card) card
 
--- of the lengths, the text's being the one that the card says: 1, 3 and 6 as above, 12 "cut short", 15 "bytes left over"
+-- of the lengths, the text's being the one that the card says: 1, 3 and 6 as above, 12 "cut short", 15 "bytes left
+-- over"
 abbrev pub openRows : ℕ → ℕ → ℕ → ℕ → ℕ → List Row
 openRows key «data» card text room =
     record { applies = not (eqb key 16); number = 1 }

@@ -12,7 +12,8 @@ use words::Block;
 
 // Writes the card of text to room, whose rest keeps its bytes. Answers 0, or the refusal.
 pub fn seal(key: &[u8], nonce: &[u8], data: &[u8], text: &[u8], room: &mut [u8]) -> u32
-    ensures { λ r. ⌜ Sealing r (inputs (now (key .entry)) (now (nonce .entry)) (now («data» .entry)) (now (text .entry))) (now (room .entry)) (now (room .exit)) ⌝ }
+    ensures { λ r. ⌜ Sealing r (inputs (now (key .entry)) (now (nonce .entry)) (now («data» .entry))
+        (now (text .entry))) (now (room .entry)) (now (room .exit)) ⌝ }
 {
     let refused = seal_refusal(key.len(), nonce.len(), data.len(), text.len(), room.len());
     if refused != 0 {
@@ -25,7 +26,8 @@ pub fn seal(key: &[u8], nonce: &[u8], data: &[u8], text: &[u8], room: &mut [u8])
 // Writes the text of a card to room, whose rest keeps its bytes, if the tag is right, and as many zeros if it is not.
 // Answers 0, or the refusal.
 pub fn open(key: &[u8], data: &[u8], card: &[u8], room: &mut [u8]) -> u32
-    ensures { λ r. ⌜ Opening r (now (key .entry)) (now («data» .entry)) (now (card .entry)) (now (room .entry)) (now (room .exit)) ⌝ }
+    ensures { λ r. ⌜ Opening r (now (key .entry)) (now («data» .entry)) (now (card .entry)) (now (room .entry))
+        (now (room .exit)) ⌝ }
 {
     let n = length_in(card);
     let refused = open_refusal(key.len(), data.len(), card.len(), n, room.len());
@@ -74,8 +76,10 @@ fn open_refusal(key: usize, data: usize, card: usize, text: usize, room: usize) 
 
 // The four parts, one behind the other.
 fn write(key: &[u8], nonce: &[u8], data: &[u8], text: &[u8], room: &mut [u8])
-    requires { ⌜ (length (now key) ≡ 16) × (length (now nonce) ≡ 12) × (length (now «data») ≤ 65536) × (length (now text) ≤ 65535) × (length (now text) + 30 ≤ length (now room)) ⌝ }
-    ensures { λ _. ⌜ now (room .exit) ≡ over (cardOf (inputs (now (key .entry)) (now (nonce .entry)) (now («data» .entry)) (now (text .entry)))) (now (room .entry)) ⌝ }
+    requires { ⌜ (length (now key) ≡ 16) × (length (now nonce) ≡ 12) × (length (now «data») ≤ 65536)
+        × (length (now text) ≤ 65535) × (length (now text) + 30 ≤ length (now room)) ⌝ }
+    ensures { λ _. ⌜ now (room .exit) ≡ over (cardOf (inputs (now (key .entry)) (now (nonce .entry))
+        (now («data» .entry)) (now (text .entry)))) (now (room .entry)) ⌝ }
 {
     let n = text.len();
     let mut tag = [0u8; 16];

@@ -36,7 +36,9 @@ pub extern "C" fn vespruldo_seal(
     room: &mut [u8],
     tag: &mut [u8],
 ) -> u32
-    ensures { λ r. ⌜ hyena.Sealing hyena.gift r (hyena.inputs (now (key .entry)) (now (nonce .entry)) (now («data» .entry)) (now (text .entry))) (now (room .entry)) (now (tag .entry)) (now (room .exit)) (now (tag .exit)) ⌝ }
+    ensures { λ r. ⌜ hyena.Sealing hyena.gift r (hyena.inputs (now (key .entry)) (now (nonce .entry))
+        (now («data» .entry)) (now (text .entry))) (now (room .entry)) (now (tag .entry)) (now (room .exit))
+        (now (tag .exit)) ⌝ }
 {
     hyena::seal(key, nonce, data, text, room, tag)
 }
@@ -50,7 +52,8 @@ pub extern "C" fn vespruldo_open(
     tag: &[u8],
     room: &mut [u8],
 ) -> u32
-    ensures { λ r. ⌜ hyena.Opening hyena.gift r (hyena.inputs (now (key .entry)) (now (nonce .entry)) (now («data» .entry)) (now (ciphertext .entry))) (now (tag .entry)) (now (room .entry)) (now (room .exit)) ⌝ }
+    ensures { λ r. ⌜ hyena.Opening hyena.gift r (hyena.inputs (now (key .entry)) (now (nonce .entry))
+        (now («data» .entry)) (now (ciphertext .entry))) (now (tag .entry)) (now (room .entry)) (now (room .exit)) ⌝ }
 {
     hyena::open(key, nonce, data, ciphertext, tag, room)
 }
@@ -63,7 +66,8 @@ pub extern "C" fn vespruldo_seal_short(
     room: &mut [u8],
     tag: &mut [u8],
 ) -> u32
-    ensures { λ r. ⌜ hyena.Sealing hyena.gift r (hyena.short (now (key .entry)) (now (nonce .entry)) (now (text .entry))) (now (room .entry)) (now (tag .entry)) (now (room .exit)) (now (tag .exit)) ⌝ }
+    ensures { λ r. ⌜ hyena.Sealing hyena.gift r (hyena.short (now (key .entry)) (now (nonce .entry))
+        (now (text .entry))) (now (room .entry)) (now (tag .entry)) (now (room .exit)) (now (tag .exit)) ⌝ }
 {
     hyena::seal_short(key, nonce, text, room, tag)
 }
@@ -76,35 +80,40 @@ pub extern "C" fn vespruldo_open_short(
     tag: &[u8],
     room: &mut [u8],
 ) -> u32
-    ensures { λ r. ⌜ hyena.Opening hyena.gift r (hyena.short (now (key .entry)) (now (nonce .entry)) (now (ciphertext .entry))) (now (tag .entry)) (now (room .entry)) (now (room .exit)) ⌝ }
+    ensures { λ r. ⌜ hyena.Opening hyena.gift r (hyena.short (now (key .entry)) (now (nonce .entry))
+        (now (ciphertext .entry))) (now (tag .entry)) (now (room .entry)) (now (room .exit)) ⌝ }
 {
     hyena::open_short(key, nonce, ciphertext, tag, room)
 }
 
 #[no_mangle]
 pub extern "C" fn vespruldo_chacha20(key: &[u8], nonce: &[u8], start: u32, text: &mut [u8]) -> u32
-    ensures { λ r. ⌜ chacha.Streaming r (now (key .entry)) (now (nonce .entry)) start (now (text .entry)) (now (text .exit)) ⌝ }
+    ensures { λ r. ⌜ chacha.Streaming r (now (key .entry)) (now (nonce .entry)) start (now (text .entry))
+        (now (text .exit)) ⌝ }
 {
     chacha::stream(key, nonce, start, text)
 }
 
 #[no_mangle]
 pub extern "C" fn vespruldo_blake2b(key: &[u8], text: &[u8], digest: &mut [u8]) -> u32
-    ensures { λ r. ⌜ blake.Digesting r (now (key .entry)) (now (text .entry)) (now (digest .entry)) (now (digest .exit)) ⌝ }
+    ensures { λ r. ⌜ blake.Digesting r (now (key .entry)) (now (text .entry)) (now (digest .entry))
+        (now (digest .exit)) ⌝ }
 {
     blake::digest(key, text, digest)
 }
 
 #[no_mangle]
 pub extern "C" fn vespruldo_lioness_encipher(key: &[u8], iv: &[u8], block: &mut [u8]) -> u32
-    ensures { λ r. ⌜ lioness.Enciphering r (now (key .entry)) (now (iv .entry)) (now (block .entry)) (now (block .exit)) ⌝ }
+    ensures { λ r. ⌜ lioness.Enciphering r (now (key .entry)) (now (iv .entry)) (now (block .entry))
+        (now (block .exit)) ⌝ }
 {
     lioness::encipher(key, iv, block)
 }
 
 #[no_mangle]
 pub extern "C" fn vespruldo_lioness_decipher(key: &[u8], iv: &[u8], block: &mut [u8]) -> u32
-    ensures { λ r. ⌜ lioness.Deciphering r (now (key .entry)) (now (iv .entry)) (now (block .entry)) (now (block .exit)) ⌝ }
+    ensures { λ r. ⌜ lioness.Deciphering r (now (key .entry)) (now (iv .entry)) (now (block .entry))
+        (now (block .exit)) ⌝ }
 {
     lioness::decipher(key, iv, block)
 }
@@ -132,7 +141,8 @@ pub extern "C" fn vespruldo_drawer_iv(drawer: Drawer) -> DrawnIv
 
 #[no_mangle]
 pub extern "C" fn vespruldo_key_find(this_term: &[u8], last_term: &[u8], class: u16) -> Found
-    ensures { λ r. ⌜ books.Finding (r .number) (now («this_term» .entry)) (now («last_term» .entry)) class (r .book) (r .offset) ⌝ }
+    ensures { λ r. ⌜ books.Finding (r .number) (now («this_term» .entry)) (now («last_term» .entry)) class (r .book)
+        (r .offset) ⌝ }
 {
     books::find(this_term, last_term, class)
 }

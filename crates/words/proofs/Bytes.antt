@@ -2,7 +2,8 @@
 use mathlib.Core.Path.{_≡_, refl, sym, ap, ap₂, _∙_}
 use mathlib.Core.List.{List, [], _∷_, _++_}
 use Prim.Native.Nat.{ℕ, zero, suc, _+_, _*_, _/_, _%_, _^_, _≤_, _<_, _-_, min}
-use native.Mathlib.Nat.{mod-lt, suc-inj, pow-suc, mul-assoc, zero-mul, zero-lt-suc, div-add-mod', div-lt-iff-lt-mul, not-suc-le-zero, le-of-suc-le-suc, zero-add, suc-add, sub-zero, zero-sub, suc-sub-suc}
+use native.Mathlib.Nat.{mod-lt, suc-inj, pow-suc, mul-assoc, zero-mul, zero-lt-suc, div-add-mod', div-lt-iff-lt-mul}
+use native.Mathlib.Nat.{not-suc-le-zero, le-of-suc-le-suc, zero-add, suc-add, sub-zero, zero-sub, suc-sub-suc}
 use native.Mathlib.Omega.{arith}
 use lib.Arith.{digits-lt, digits-div, digits-mod, lt-one}
 use lib.Dec.{lit<}
@@ -36,7 +37,13 @@ unfolding number
 number-split zero s = omega arith
 number-split (suc k) [] = omega (arith, zero-mul (256 ^ suc k))
 number-split (suc k) (b ∷ s) =
-    omega (arith, number-split k s, ap (λ (x : ℕ). number (drop k s) * x) (pow-suc 256 k), mul-assoc (number (drop k s)) (256 ^ k) 256)
+    omega (
+      arith,
+      number-split k s,
+      ap (λ (x : ℕ). number (drop k s) * x) (pow-suc 256 k),
+      mul-assoc (number (drop k s))
+          (256 ^ k) 256,
+    )
 
 -- the first byte is the lowest
 pub number-first : (s : List ℕ) (j : ℕ) → j < length s → number (drop j s) ≡ number (drop (suc j) s) * 256 + getD s j 0
@@ -65,13 +72,15 @@ pub number-bytes : (n x : ℕ) → x < 256 ^ n → number (bytes n x) ≡ x
 unfolding number bytes
 number-bytes zero x h = sym (lt-one h)
 number-bytes (suc n) x h =
-    ap (λ (z : ℕ). z * 256 + x % 256) (number-bytes n (x / 256) (div-lt-iff-lt-mul (zero-lt-suc 255) .1 (rw pow-suc at h))) ∙ div-add-mod' x 256
+    ap (λ (z : ℕ). z * 256 + x % 256) (number-bytes n (x / 256)
+    (div-lt-iff-lt-mul (zero-lt-suc 255) .1 (rw pow-suc at h))) ∙ div-add-mod' x 256
 
 pub bytes-number : (s : List ℕ) → Bytes s → bytes (length s) (number s) ≡ s
 unfolding number bytes
 bytes-number [] h = refl
 bytes-number (b ∷ s) h =
-    ap₂ _∷_ (digits-mod (number s) (h 0)) (ap (bytes (length s)) (digits-div (number s) (h 0)) ∙ bytes-number s (λ i. h (suc i)))
+    ap₂ _∷_ (digits-mod (number s) (h 0)) (ap (bytes (length s)) (digits-div (number s) (h 0))
+    ∙ bytes-number s (λ i. h (suc i)))
 
 -- as many bytes of one number are the same bytes
 pub number-inj : (s t : List ℕ) → Bytes s → Bytes t → length s ≡ length t → number s ≡ number t → s ≡ t
@@ -109,7 +118,8 @@ bytes-append (suc k) n lo hi h =
     let e : hi * 256 ^ suc k + lo ≡ (hi * 256 ^ k + lo / 256) * 256 + lo % 256 =
     omega (arith, ap (λ (x : ℕ). hi * x) (pow-suc 256 k), mul-assoc hi (256 ^ k) 256) in
     rw (suc-add, e, digits-mod (hi * 256 ^ k + lo / 256) r, digits-div (hi * 256 ^ k + lo / 256) r)
-    (ap (λ (l : List ℕ). lo % 256 ∷ l) (bytes-append k n (lo / 256) hi (div-lt-iff-lt-mul (zero-lt-suc 255) .1 (rw pow-suc at h))))
+    (ap (λ (l : List ℕ). lo % 256 ∷ l) (bytes-append k n (lo / 256) hi
+    (div-lt-iff-lt-mul (zero-lt-suc 255) .1 (rw pow-suc at h))))
 
 -- ---- zeros
 
@@ -163,7 +173,8 @@ module _ (t : ℕ) where
       rw e (ap (λ (r : List ℕ). b ∷ r) (filled-least n k s))
 
   -- what lies past the n bytes or past the end does not matter
-  pub filled-same : (n j k : ℕ) (s : List ℕ) → min j (min n (length s)) ≡ min k (min n (length s)) → filled t n (take j s) ≡ filled t n (take k s)
+  pub filled-same : (n j k : ℕ) (s : List ℕ) → min j (min n (length s)) ≡ min k (min n (length s))
+      → filled t n (take j s) ≡ filled t n (take k s)
   filled-same n j k s e = filled-least n j s ∙ ap (λ (i : ℕ). filled t n (take i s)) e ∙ sym (filled-least n k s)
 
   pub take-filled : (k n : ℕ) (s : List ℕ) → k ≤ n → take k (filled t n s) ≡ filled t k s

@@ -39,7 +39,8 @@ module _ (a b : Block) (fa : (a .lo < 2 ^ 64) × (a .hi < 2 ^ 64)) (fb : (b .lo 
   unfolding differing
   none-differs e =
       let q : a ≡ b = sym (halves-value a (fa .0)) ∙ ap halves e ∙ halves-value b (fb .0) in
-      ap folded (ap₂ bitOr (ap (λ (x : Block). bitXor (x .lo) (b .lo)) q ∙ xor-self (b .lo)) (ap (λ (x : Block). bitXor (x .hi) (b .hi)) q ∙ xor-self (b .hi)))
+      ap folded (ap₂ bitOr (ap (λ (x : Block). bitXor (x .lo) (b .lo)) q ∙ xor-self (b .lo))
+      (ap (λ (x : Block). bitXor (x .hi) (b .hi)) q ∙ xor-self (b .hi)))
 
   pub equal-is : eqb (folded (bitOr (bitXor (a .lo) (b .lo)) (bitXor (a .hi) (b .hi)))) 0 ≡ eqb (value a) (value b)
   unfolding differing

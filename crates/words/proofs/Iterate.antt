@@ -15,13 +15,16 @@ module _ {A : Type 0} (f : ℕ → A → A) where
   iterate-next n x e g = rw (add-one, g, e)
 
 -- steps that do the same
-pub iterate-same : {A : Type 0} (f g : ℕ → A → A) (n : ℕ) (x : A) → ((i : ℕ) (y : A) → i < n → f i y ≡ g i y) → iterate f n x ≡ iterate g n x
+pub iterate-same : {A : Type 0} (f g : ℕ → A → A) (n : ℕ) (x : A) → ((i : ℕ) (y : A) → i < n → f i y ≡ g i y)
+    → iterate f n x ≡ iterate g n x
 unfolding iterate
 iterate-same f g zero x h = refl
-iterate-same f g (suc n) x h = ap (f n) (iterate-same f g n x (λ i y l. h i y (le-step l))) ∙ h n (iterate g n x) (le-refl (suc n))
+iterate-same f g (suc n) x h =
+    ap (f n) (iterate-same f g n x (λ i y l. h i y (le-step l))) ∙ h n (iterate g n x) (le-refl (suc n))
 
 -- what each step keeps, all keep
-pub iterate-keep : {A : Type 0} (P : A → Type 0) (f : ℕ → A → A) → ((i : ℕ) (y : A) → P y → P (f i y)) → (n : ℕ) (x : A) → P x → P (iterate f n x)
+pub iterate-keep : {A : Type 0} (P : A → Type 0) (f : ℕ → A → A) → ((i : ℕ) (y : A) → P y → P (f i y)) → (n : ℕ) (x : A)
+    → P x → P (iterate f n x)
 unfolding iterate
 iterate-keep P f keep zero x h = h
 iterate-keep P f keep (suc n) x h = keep n (iterate f n x) (iterate-keep P f keep n x h)

@@ -99,7 +99,8 @@ plusAt-append (suc at) (b ∷ s) t u = rw suc-add (ap (λ (r : List ℕ). b ∷ 
 
 -- ---- one byte after the other
 
-plusAt-set : (at : ℕ) (s : List ℕ) (c : ℕ) (t : List ℕ) → at < length s → plusAt (suc at) (set s at (bitXor (getD s at 0) c)) t ≡ plusAt at s (c ∷ t)
+plusAt-set : (at : ℕ) (s : List ℕ) (c : ℕ) (t : List ℕ) → at < length s
+    → plusAt (suc at) (set s at (bitXor (getD s at 0) c)) t ≡ plusAt at s (c ∷ t)
 unfolding plus plusAt
 plusAt-set at [] c t h = absurd (not-suc-le-zero h)
 plusAt-set zero (b ∷ s) c t h = refl
@@ -107,17 +108,21 @@ plusAt-set (suc at) (b ∷ s) c t h = ap (λ (r : List ℕ). b ∷ r) (plusAt-se
 
 module _ (t : List ℕ) (from n at i : ℕ) where
   -- one step of a loop that adds a part of t
-  pub plusAt-next : (s l : List ℕ) → i < n → from + i < length t → at + i < length s → plusAt (at + i) s (drop i (part t from n)) ≡ l
-      → plusAt (at + (i + 1)) (set s (at + i) (bitXor (getD s (at + i) 0) (getD t (from + i) 0))) (drop (i + 1) (part t from n)) ≡ l
+  pub plusAt-next : (s l : List ℕ) → i < n → from + i < length t → at + i < length s
+      → plusAt (at + i) s (drop i (part t from n)) ≡ l
+      → plusAt (at + (i + 1)) (set s (at + i) (bitXor (getD s (at + i) 0) (getD t (from + i) 0)))
+      (drop (i + 1) (part t from n)) ≡ l
   plusAt-next s l hn ht hs e =
       let p = part t from n in
       let lp : length p ≡ min n (length t - from) = simp (length-take, length-drop) in
       let ei : at + (i + 1) ≡ suc (at + i) = omega arith in
       let eb : getD p i 0 ≡ getD t (from + i) 0 = getD-take n (drop from t) i 0 hn ∙ getD-drop from t i 0 in
-      rw (ei, add-one, ← eb) (plusAt-set (at + i) s (getD p i 0) (drop (suc i) p) hs ∙ rw (drop-cons p i 0 (omega arith)) at e)
+      rw (ei, add-one, ← eb) (plusAt-set (at + i) s (getD p i 0) (drop (suc i) p) hs
+      ∙ rw (drop-cons p i 0 (omega arith)) at e)
 
   -- and its end, where one of them has no more
-  pub plusAt-end : (s : List ℕ) (m : ℕ) → m ≡ min (length s - at) (min n (length t - from)) → m ≤ i → plusAt (at + i) s (drop i (part t from n)) ≡ s
+  pub plusAt-end : (s : List ℕ) (m : ℕ) → m ≡ min (length s - at) (min n (length t - from)) → m ≤ i
+      → plusAt (at + i) s (drop i (part t from n)) ≡ s
   plusAt-end s m e h =
       let p = part t from n in
       let lp : length p ≡ min n (length t - from) = simp (length-take, length-drop) in

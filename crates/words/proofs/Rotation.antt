@@ -16,7 +16,8 @@ module _ (b n x : ℕ) (h : n ≤ b) where
   shifted : x * 2 ^ (b - n) % 2 ^ b ≡ x % 2 ^ n * 2 ^ (b - n)
   shifted =
       ap (λ (y : ℕ). x * 2 ^ (b - n) % y) width ∙ mod-mul (x * 2 ^ (b - n)) (pow-pos n) (pow-pos (b - n))
-      ∙ ap₂ (λ (y z : ℕ). y % 2 ^ n * 2 ^ (b - n) + z) (shl-shr x (b - n)) (mul-mod-left x (2 ^ (b - n))) ∙ add-zero (x % 2 ^ n * 2 ^ (b - n))
+      ∙ ap₂ (λ (y z : ℕ). y % 2 ^ n * 2 ^ (b - n) + z) (shl-shr x (b - n)) (mul-mod-left x (2 ^ (b - n)))
+      ∙ add-zero (x % 2 ^ n * 2 ^ (b - n))
 
   -- what is left of a shift to the right
   high-lt : x < 2 ^ b → x / 2 ^ n < 2 ^ (b - n)

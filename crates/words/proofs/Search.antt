@@ -24,7 +24,8 @@ unfolding same
 same-is [] [] e = refl
 same-is [] (c ∷ t) e = absurd (true≢false (sym e))
 same-is (b ∷ s) [] e = absurd (true≢false (sym e))
-same-is (b ∷ s) (c ∷ t) e = let p = and-eq-true-iff (eqb b c) (same s t) .0 e in ap₂ _∷_ (eqb-true b c (p .0)) (same-is s t (p .1))
+same-is (b ∷ s) (c ∷ t) e = let p = and-eq-true-iff (eqb b c) (same s t) .0 e in
+    ap₂ _∷_ (eqb-true b c (p .0)) (same-is s t (p .1))
 
 pub other-length : (s t : List ℕ) → (length s ≡ length t → ⊥) → same s t ≡ false
 unfolding same
@@ -42,15 +43,19 @@ module _ (s t : List ℕ) (i : ℕ) (h : i < length s) (l : length s ≡ length 
   unfolding same
   next = let h′ : i < length t = omega arith in rw (drop-cons s i 0 h, drop-cons t i 0 h′)
 
-  pub same-next : {u : Bool} → getD s i 0 ≡ getD t i 0 → same (drop i s) (drop i t) ≡ u → same (drop (i + 1) s) (drop (i + 1) t) ≡ u
+  pub same-next : {u : Bool} → getD s i 0 ≡ getD t i 0 → same (drop i s) (drop i t) ≡ u
+      → same (drop (i + 1) s) (drop (i + 1) t) ≡ u
   same-next e inv = rw add-one (sym (next ∙ rw (eq-eqb (getD s i 0) (getD t i 0) e)) ∙ inv)
 
   pub differ : {u : Bool} → (getD s i 0 ≡ getD t i 0 → ⊥) → same (drop i s) (drop i t) ≡ u → false ≡ u
   differ ne inv = sym (next ∙ rw (ne-eqb (getD s i 0) (getD t i 0) ne)) ∙ inv
 
-pub same-end : (s t : List ℕ) (i : ℕ) {u : Bool} → length s ≤ i → length s ≡ length t → same (drop i s) (drop i t) ≡ u → true ≡ u
+pub same-end : (s t : List ℕ) (i : ℕ) {u : Bool} → length s ≤ i → length s ≡ length t → same (drop i s) (drop i t) ≡ u
+    → true ≡ u
 unfolding same
-same-end s t i h l inv = sym (let h′ : length t ≤ i = omega arith in rw (drop-of-length-le s {i = i} h, drop-of-length-le t {i = i} h′)) ∙ inv
+same-end s t i h l inv =
+    sym (let h′ : length t ≤ i = omega arith in rw (drop-of-length-le s {i = i} h, drop-of-length-le t {i = i} h′))
+    ∙ inv
 
 -- ---- where a number first stands
 
@@ -58,12 +63,14 @@ module _ (s : List ℕ) (c i to : ℕ) {p : ℕ} (inv : finding s i to c ≡ p) 
   pub goes-on : i < to → i < length s → (getD s i 0 ≡ c → ⊥) → finding s (i + 1) to c ≡ p
   unfolding placeOf
   goes-on h l n =
-      let e : placeOf c (drop i s) ≡ suc (placeOf c (drop (i + 1) s)) = rw (drop-cons s i 0 l, ne-eqb (getD s i 0) c n, add-one) in
+      let e : placeOf c (drop i s) ≡ suc (placeOf c (drop (i + 1) s)) =
+      rw (drop-cons s i 0 l, ne-eqb (getD s i 0) c n, add-one) in
       omega (arith, inv, e)
 
   pub found : i < length s → getD s i 0 ≡ c → i ≡ p
   unfolding placeOf
-  found l k = let e : placeOf c (drop i s) ≡ 0 = rw (drop-cons s i 0 l, eq-eqb (getD s i 0) c k) in omega (arith, inv, e)
+  found l k = let e : placeOf c (drop i s) ≡ 0 = rw (drop-cons s i 0 l, eq-eqb (getD s i 0) c k) in
+      omega (arith, inv, e)
 
   pub ended : min to (length s) ≤ i → i ≡ p
   unfolding placeOf

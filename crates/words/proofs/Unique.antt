@@ -19,22 +19,27 @@ same p q = p ∙ sym q
 pub wide-unique : (x : ℕ) {r s : ℕ} → r ≡ x → s ≡ x → r ≡ s
 wide-unique x = same
 
-pub xor-unique : (a b : Block) {r s : Block} → r ≡ halves (bitXor (value a) (value b)) → s ≡ halves (bitXor (value a) (value b)) → r ≡ s
+pub xor-unique : (a b : Block) {r s : Block} → r ≡ halves (bitXor (value a) (value b))
+    → s ≡ halves (bitXor (value a) (value b)) → r ≡ s
 xor-unique a b = same
 
 pub equal-unique : (a b : Block) {r s : Bool} → r ≡ eqb (value a) (value b) → s ≡ eqb (value a) (value b) → r ≡ s
 equal-unique a b = same
 
-pub load-unique : (s : List ℕ) (at n : ℕ) {r t : Block} → r ≡ halves (loaded s at n) → t ≡ halves (loaded s at n) → r ≡ t
+pub load-unique : (s : List ℕ) (at n : ℕ) {r t : Block} → r ≡ halves (loaded s at n) → t ≡ halves (loaded s at n)
+    → r ≡ t
 load-unique s at n = same
 
-pub load-pad-unique : (s : List ℕ) (at n : ℕ) {r t : Block} → r ≡ halves (loadedPad s at n) → t ≡ halves (loadedPad s at n) → r ≡ t
+pub load-pad-unique : (s : List ℕ) (at n : ℕ) {r t : Block} → r ≡ halves (loadedPad s at n)
+    → t ≡ halves (loadedPad s at n) → r ≡ t
 load-pad-unique s at n = same
 
-pub store-unique : (s : List ℕ) (at n : ℕ) (x : Block) {a b : List ℕ} → a ≡ stored s at n (value x) → b ≡ stored s at n (value x) → a ≡ b
+pub store-unique : (s : List ℕ) (at n : ℕ) (x : Block) {a b : List ℕ} → a ≡ stored s at n (value x)
+    → b ≡ stored s at n (value x) → a ≡ b
 store-unique s at n x = same
 
-pub add-unique : (s : List ℕ) (at : ℕ) (t : List ℕ) (from n : ℕ) {a b : List ℕ} → a ≡ plusAt at s (part t from n) → b ≡ plusAt at s (part t from n) → a ≡ b
+pub add-unique : (s : List ℕ) (at : ℕ) (t : List ℕ) (from n : ℕ) {a b : List ℕ} → a ≡ plusAt at s (part t from n)
+    → b ≡ plusAt at s (part t from n) → a ≡ b
 add-unique s at t from n = same
 
 pub two-unique : (s : List ℕ) (at : ℕ) {m n : ℕ} → m ≡ two s at → n ≡ two s at → m ≡ n

@@ -12,7 +12,8 @@ use Rattle.words.specs.Block.{value, halves, part, loaded, stored}
 use Rattle.words.specs.Bytes.{Bytes, number, bytes, filled}
 use Rattle.words.specs.Words.{unwords}
 use Rattle.words.proofs.Lists.{take-replicate, drop-replicate, sets-append}
-use Rattle.words.proofs.Bytes.{bytes-take, bytes-drop, number-lt, number-zeros, length-bytes, take-bytes, take-filled}
+use Rattle.words.proofs.Bytes.{bytes-take, bytes-drop, number-lt, number-zeros, length-bytes, take-bytes}
+use Rattle.words.proofs.Bytes.{take-filled}
 
 -- ---- one word
 
@@ -64,7 +65,8 @@ module _ (s : List ℕ) (h : Bytes s) (at n : ℕ) where
       ∙ mod-eq-of-lt (lt-of-lt-of-le word-lt (pow-le-pow-right {n = 256} (omega arith) {i = n} {j = 8} k))
 
 -- a word written as the low half of a block
-pub stored-word : (s : List ℕ) (at n x : ℕ) → n ≤ 16 → stored s at n (value (record { lo = x; hi = 0 })) ≡ sets s at (bytes n x)
+pub stored-word : (s : List ℕ) (at n x : ℕ) → n ≤ 16
+    → stored s at n (value (record { lo = x; hi = 0 })) ≡ sets s at (bytes n x)
 unfolding stored value
 stored-word s at n x h =
     let e : min n 16 ≡ n = omega arith in
@@ -78,13 +80,15 @@ length-unwords w [] = sym (mul-zero w)
 length-unwords w (x ∷ xs) = rw (length-append, length-bytes, length-unwords w xs, mul-suc) (omega arith)
 
 -- one step of a loop that stores a list of words
-pub words-next : (w i : ℕ) (s s′ l xs : List ℕ) → i < length xs → s′ ≡ sets s (w * i) (bytes w (getD xs i 0)) → sets s (w * i) (unwords w (drop i xs)) ≡ l
+pub words-next : (w i : ℕ) (s s′ l xs : List ℕ) → i < length xs → s′ ≡ sets s (w * i) (bytes w (getD xs i 0))
+    → sets s (w * i) (unwords w (drop i xs)) ≡ l
     → sets s′ (w * (i + 1)) (unwords w (drop (i + 1) xs)) ≡ l
 unfolding unwords
 words-next w i s s′ l xs h e′ e =
     let x = getD xs i 0 in
     let ep : w * (i + 1) ≡ w * i + length (bytes w x) = rw (length-bytes, add-one, mul-suc) in
-    rw (ep, add-one, e′) (sets-append s (w * i) (bytes w x) (unwords w (drop (suc i) xs)) ∙ rw (drop-cons xs i 0 h) at e)
+    rw (ep, add-one, e′) (sets-append s (w * i) (bytes w x) (unwords w (drop (suc i) xs))
+    ∙ rw (drop-cons xs i 0 h) at e)
 
 -- its start
 pub words-first : (w : ℕ) (s xs : List ℕ) → sets s (w * 0) (unwords w (drop 0 xs)) ≡ sets s 0 (unwords w xs)

@@ -1,5 +1,5 @@
--- Sixteen words as a square of four rows. A step takes four words and gives a Q, whose parts a, b, c and d are the four that
--- come in their places.
+-- Sixteen words as a square of four rows. A step takes four words and gives a Q, whose parts a, b, c and d are the four
+-- that come in their places.
 use Prim.Native.Nat.{ℕ}
 use mathlib.Core.List.{List}
 use lib.ListN.{getD, set}

@@ -27,7 +27,7 @@ fn store(card: &Sealed) -> Vec<u8> {
     .concat()
 }
 
-/// The card with these bytes. Of too few, the nonce or the tag is refused.
+/// The card with these bytes. If there are too few, nonce or tag is refused.
 fn read(stored: &[u8]) -> Result<Sealed, Refusal> {
     let (nonce, rest) = stored.split_at(stored.len().min(NONCE_BYTES));
     let (ciphertext, tag) = rest.split_at(rest.len().saturating_sub(TAG_BYTES));
@@ -49,7 +49,7 @@ fn main() -> Result<(), Refusal> {
     let last_term = book(&[(CLASS, [3; 16])]);
     let key = find_key(&this_term, &last_term, CLASS)?;
 
-    // An office starts where it had come to, and writes the count down again
+    // An office goes on from the count it had reached, and stores the new one
     // before a nonce is used.
     let mut drawer = Drawer::start(2026, 0);
     let mut shelf = vec![];

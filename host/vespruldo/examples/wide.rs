@@ -8,7 +8,7 @@ fn recording() -> Vec<u8> {
     (0..4000).map(|i| (i % 40) as u8).collect()
 }
 
-/// How many bytes differ, of a hundred.
+/// How many bytes differ, in per cent.
 fn changed(a: &[u8], b: &[u8]) -> usize {
     let differ = a.iter().zip(b).filter(|(a, b)| a != b).count();
     100 * differ / a.len()

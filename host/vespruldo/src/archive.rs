@@ -1,6 +1,6 @@
-//! The archive's functions as it exports them, and what they answer beside a
-//! number. The safe functions of this crate are what to call; these are public
-//! for the tests, which look at what a refusal answers.
+//! The archive's functions as it exports them, and the structs that some of them
+//! take or answer. Call the safe functions of this crate instead: these are
+//! public for the tests, which look at what comes with a refusal.
 
 /// A drawer: its reader number and its count.
 #[repr(C)]
@@ -10,8 +10,8 @@ pub struct Drawer {
     pub count: u64,
 }
 
-/// What a draw, or an iv, answers: the document's number, the bytes, and the
-/// drawer that is handed back.
+/// What drawing a nonce or an iv answers: the document's number, the bytes, and
+/// the drawer that is handed back.
 #[repr(C)]
 #[derive(Clone, Copy, Debug, PartialEq, Eq)]
 pub struct Drawn<const N: usize> {
@@ -20,8 +20,8 @@ pub struct Drawn<const N: usize> {
     pub next: Drawer,
 }
 
-/// What a lookup answers: the document's number, the book, 0 for this term's and
-/// 1 for last term's, and the key's place in it.
+/// What a lookup answers: the document's number, the book (0 for this term's, 1
+/// for last term's), and where in it the key begins.
 #[repr(C)]
 #[derive(Clone, Copy, Debug, PartialEq, Eq)]
 pub struct Found {

@@ -1,13 +1,13 @@
-//! Blocks and texts that are changed where they lie: LIONESS, GIFT-128 and
-//! ChaCha20, with keys, nonces and ivs whose lengths are in their types.
+//! Blocks and texts that are changed in place: LIONESS, GIFT-128 and ChaCha20,
+//! with keys, nonces and ivs whose lengths are in their types.
 
 use crate::bytes::{Iv, Key, Nonce, StreamKey, WideKey};
 use crate::refusal::Refusal;
 use crate::sizes::GIFT_BLOCK_BYTES;
 use crate::slices;
 
-/// Enciphers `block`, 33 to 1,048,608 bytes, where it lies by LIONESS. The block
-/// is unchanged if this is refused.
+/// Enciphers `block` in place with LIONESS. The block is unchanged if this is
+/// refused.
 ///
 /// No two blocks may be enciphered under one key and iv: draw each iv from a
 /// [`Drawer`](crate::Drawer), and store it with the block, for deciphering.
@@ -34,9 +34,9 @@ pub fn lioness_encipher(key: &WideKey, iv: &Iv, block: &mut [u8]) -> Result<(), 
     slices::lioness_encipher(key.as_bytes(), iv.as_bytes(), block)
 }
 
-/// Deciphers `block` where it lies by LIONESS: undoes [`lioness_encipher`] under
-/// the same key and iv. There is no tag: under another key or iv, or when it was
-/// changed, the whole block comes out as noise and nothing tells.
+/// Deciphers `block` in place with LIONESS: undoes [`lioness_encipher`] under the
+/// same key and iv. There is no tag: under another key or iv, or if it was
+/// changed, the whole block comes out as noise, and nothing says so.
 ///
 /// ```
 /// use vespruldo::{lioness_decipher, Iv, Refusal, WideKey};
@@ -54,7 +54,7 @@ pub fn lioness_decipher(key: &WideKey, iv: &Iv, block: &mut [u8]) -> Result<(), 
     slices::lioness_decipher(key.as_bytes(), iv.as_bytes(), block)
 }
 
-/// Enciphers `block` where it lies by GIFT-128. Nothing can be refused here.
+/// Enciphers `block` in place with GIFT-128. Nothing can be refused here.
 ///
 /// ```
 /// use vespruldo::{gift_decipher, gift_encipher, Key};
@@ -75,30 +75,30 @@ pub fn gift_encipher(key: &Key, block: &mut [u8; GIFT_BLOCK_BYTES]) {
     never_refused(slices::gift_encipher(key.as_bytes(), block));
 }
 
-/// Deciphers `block` where it lies by GIFT-128: undoes [`gift_encipher`].
-/// Nothing can be refused here.
+/// Deciphers `block` in place with GIFT-128: undoes [`gift_encipher`]. Nothing
+/// can be refused here.
 pub fn gift_decipher(key: &Key, block: &mut [u8; GIFT_BLOCK_BYTES]) {
     never_refused(slices::gift_decipher(key.as_bytes(), block));
 }
 
-/// Takes the outcome of a call whose types leave nothing to refuse.
+/// Takes the result of a call whose types leave nothing to refuse.
 ///
 /// # Panics
 ///
-/// On a refusal, which the archive then does not promise: what became of the
-/// block, nobody knows.
-fn never_refused(outcome: Result<(), Refusal>) {
-    if let Err(refusal) = outcome {
+/// On a refusal, which the archive does not promise for these lengths: nobody
+/// knows what became of the block.
+fn never_refused(result: Result<(), Refusal>) {
+    if let Err(refusal) = result {
         let number = refusal.number();
         panic!("the archive answered {number}, which these lengths rule out");
     }
 }
 
-/// Adds ChaCha20's key stream to `text`, at most 1,048,576 bytes, by exclusive
-/// or. The stream's blocks of 64 bytes are counted from `start`. Done twice,
-/// this gives the text back. The text is unchanged if this is refused.
+/// Adds ChaCha20's key stream to `text` in place, by exclusive or. The stream's
+/// blocks of 64 bytes are counted from `start`. Done twice, this gives the text
+/// back. The text is unchanged if this is refused.
 ///
-/// No key, nonce and counter may be used for two texts. There is no tag: who
+/// No key, nonce and counter may be used for two texts. There is no tag: whoever
 /// flips a bit here flips it in the text.
 ///
 /// ```
@@ -117,8 +117,9 @@ fn never_refused(outcome: Result<(), Refusal>) {
 ///
 /// # Errors
 ///
-/// [`Refusal::TextLength`] if the text is longer than 1,048,576 bytes; otherwise
-/// [`Refusal::StreamTooLong`] if `start` plus the blocks needed exceeds 2^32.
+/// The first of these that applies: [`Refusal::TextLength`] if the text is longer
+/// than 1,048,576 bytes, [`Refusal::StreamTooLong`] if `start` plus the blocks
+/// needed exceeds 2^32.
 pub fn chacha20(
     key: &StreamKey,
     nonce: &Nonce,

@@ -4,14 +4,13 @@ use crate::bytes::Key;
 use crate::refusal::Refusal;
 use crate::slices;
 
-/// Looks the key of `class` up in two key books, this term's and last term's.
-/// The key handed back is that part of the book itself, not a copy; where both
+/// Looks up the key of `class` in two key books, this term's and last term's.
+/// The key handed back is that part of the book itself, not a copy; if both
 /// books have an entry for the class, this term's book wins.
 ///
 /// A key book is a count of two bytes, then for each entry a class number of
-/// two bytes and a key of 16, all numbers little-endian. It is well formed when
-/// it has 2 + 18·count bytes and the class numbers strictly rise. Both books are
-/// judged whole before either is searched.
+/// two bytes and a key of 16, all numbers little-endian. Both books are judged
+/// whole before either is searched.
 ///
 /// ```
 /// use vespruldo::{find_key, open, seal, Drawer, Refusal};
@@ -32,9 +31,9 @@ use crate::slices;
 ///
 /// # Errors
 ///
-/// The first of these that applies: [`Refusal::BookForm`] if either book is
-/// badly formed, [`Refusal::ClassMissing`] if neither has an entry for the
-/// class.
+/// The first of these that applies: [`Refusal::BookForm`] if either book is not
+/// 2 + 18·count bytes long or its class numbers do not strictly rise,
+/// [`Refusal::ClassMissing`] if neither has an entry for the class.
 pub fn find_key<'a>(
     this_term: &'a [u8],
     last_term: &'a [u8],

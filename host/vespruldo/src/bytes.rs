@@ -1,4 +1,4 @@
-//! Keys, nonces, ivs and tags: bytes of one length each.
+//! Keys, nonces, ivs and tags: types of one length each.
 
 use std::fmt;
 use std::ptr;
@@ -67,16 +67,16 @@ macro_rules! secret {
             /// It cannot be copied or cloned: lend it, and there is one place to
             /// wipe.
             ///
-            /// When it is dropped its bytes are overwritten with zeros. That
-            /// reaches the place where it lies then. It does not reach an array
+            /// When it is dropped, its bytes are overwritten with zeros. That
+            /// reaches the place where it then lies. It does not reach an array
             /// or slice that it was made from, places that it was moved out of,
             /// or what the compiler and the archive left on the stack.
             $name, $len, KeyLength
         }
 
         impl $name {
-            /// Bytes that lie elsewhere, taken for a key where they lie: they
-            /// are neither copied nor wiped.
+            /// Takes bytes that lie elsewhere for a key, in place: they are
+            /// neither copied nor wiped.
             #[must_use]
             pub fn from_ref(bytes: &[u8; $len]) -> &$name {
                 // SAFETY: the type holds these bytes alone and has their layout.
@@ -123,8 +123,8 @@ macro_rules! public {
     };
 }
 
-/// Sets every byte to 0. Nobody reads them afterwards, so that the compiler
-/// would leave plain writes out; volatile ones it keeps, and the fence keeps them
+/// Sets every byte to 0. Nobody reads them afterwards, so the compiler would
+/// leave plain writes out; it keeps volatile ones, and the fence keeps those
 /// before whatever is done with the memory next.
 fn wipe(bytes: &mut [u8]) {
     for byte in bytes {
@@ -135,7 +135,7 @@ fn wipe(bytes: &mut [u8]) {
 }
 
 secret! {
-    /// A key of sealing, opening and GIFT-128: 16 bytes.
+    /// A key for sealing, opening and GIFT-128: 16 bytes.
     ///
     /// ```
     /// use vespruldo::{Key, Refusal};
@@ -150,17 +150,17 @@ secret! {
 }
 
 secret! {
-    /// A key of ChaCha20: 32 bytes.
+    /// A key for ChaCha20: 32 bytes.
     StreamKey, CHACHA20_KEY_BYTES
 }
 
 secret! {
-    /// A key of LIONESS: 128 bytes.
+    /// A key for LIONESS: 128 bytes.
     WideKey, LIONESS_KEY_BYTES
 }
 
 public! {
-    /// A nonce of sealing, opening and ChaCha20: 12 bytes, best drawn from a
+    /// A nonce for sealing, opening and ChaCha20: 12 bytes, best drawn from a
     /// [`Drawer`](crate::Drawer).
     ///
     /// No two texts may be sealed under one key and nonce. So a nonce cannot be
@@ -174,8 +174,8 @@ public! {
     /// # Ok::<(), vespruldo::Refusal>(())
     /// ```
     ///
-    /// This stops a slip, not a will: one that is taken back out of what was
-    /// sealed, or made of bytes that were stored, is for opening alone.
+    /// This stops a slip, not intent: a nonce taken back out of what was sealed,
+    /// or made from bytes that were stored, is for opening only.
     ///
     /// ```
     /// use vespruldo::{Drawer, Nonce, Refusal};
@@ -191,7 +191,7 @@ public! {
 }
 
 public! {
-    /// An iv of LIONESS: 48 bytes, best drawn from a [`Drawer`](crate::Drawer).
+    /// An iv for LIONESS: 48 bytes, best drawn from a [`Drawer`](crate::Drawer).
     /// No two blocks may be enciphered under one key and iv, so it cannot be
     /// copied or cloned:
     ///
@@ -204,10 +204,10 @@ public! {
 }
 
 public! {
-    /// A tag of sealing and opening: 16 bytes.
+    /// A tag for sealing and opening: 16 bytes.
     ///
     /// Tags are not compared by `==`. Whether one is right is for
-    /// [`open`](crate::open) to decide, which leaves no text where it is not.
+    /// [`open`](crate::open) to decide, which leaves no text if it is not.
     ///
     /// ```compile_fail,E0369
     /// fn same(tags: [vespruldo::Tag; 2]) -> bool {

@@ -5,7 +5,7 @@ use crate::refusal::Refusal;
 use crate::sizes::{TAG_BYTES, TEXT_MAX};
 use crate::slices;
 
-/// What was sealed, and all that opening needs beside the key and the associated
+/// What was sealed: all that opening needs, apart from the key and the associated
 /// data. The parts stand in the order in which they are stored.
 #[derive(Debug)]
 pub struct Sealed {
@@ -26,8 +26,8 @@ fn room_for(like: &[u8]) -> Vec<u8> {
     vec![0; like.len().min(TEXT_MAX)]
 }
 
-/// What a form of sealing, which is lent the nonce and room for ciphertext and
-/// tag, makes of a text.
+/// Seals a text by one of the two forms, which is lent the nonce, and room for
+/// ciphertext and tag.
 fn sealed(
     nonce: Nonce,
     text: &[u8],
@@ -43,12 +43,12 @@ fn sealed(
     })
 }
 
-/// Seals `text`, at most 1,048,576 bytes, by HyENA. The tag also covers the
-/// associated data `data`, at most 65,536 bytes, which is not hidden and not
-/// part of what is answered: opening must be given the same.
+/// Seals `text` with HyENA. The tag also covers the associated data `data`, which
+/// is not hidden and not part of what is answered: opening must be given the
+/// same.
 ///
-/// The nonce is used up, also if this is refused: draw the next one from the
-/// same [`Drawer`](crate::Drawer).
+/// The nonce is used up even if this is refused: draw the next one from the same
+/// [`Drawer`](crate::Drawer).
 ///
 /// ```
 /// use vespruldo::{open, seal, Drawer, Key};
@@ -67,8 +67,9 @@ fn sealed(
 ///
 /// # Errors
 ///
-/// [`Refusal::DataLength`] if the associated data is too long; otherwise
-/// [`Refusal::TextLength`] if the text is.
+/// The first of these that applies: [`Refusal::DataLength`] if the associated
+/// data is longer than 65,536 bytes, [`Refusal::TextLength`] if the text is
+/// longer than 1,048,576 bytes.
 pub fn seal(key: &Key, nonce: Nonce, data: &[u8], text: &[u8]) -> Result<Sealed, Refusal> {
     sealed(nonce, text, |nonce, room, tag| {
         slices::seal(key.as_bytes(), nonce, data, text, room, tag)
@@ -97,10 +98,8 @@ pub fn seal(key: &Key, nonce: Nonce, data: &[u8], text: &[u8]) -> Result<Sealed,
 ///
 /// # Errors
 ///
-/// The first of these that applies: [`Refusal::DataLength`] if the associated
-/// data is longer than 65,536 bytes, [`Refusal::TextLength`] if the ciphertext is
-/// longer than 1,048,576 bytes, [`Refusal::WrongTag`] if the tag is not the
-/// recomputed one.
+/// As for [`seal`], with the ciphertext in place of the text, and last
+/// [`Refusal::WrongTag`] if the tag is not the recomputed one.
 pub fn open(key: &Key, data: &[u8], sealed: &Sealed) -> Result<Vec<u8>, Refusal> {
     let mut text = room_for(&sealed.ciphertext);
     slices::open(
@@ -114,19 +113,20 @@ pub fn open(key: &Key, data: &[u8], sealed: &Sealed) -> Result<Vec<u8>, Refusal>
     Ok(text)
 }
 
-/// [`seal`] without associated data, which is the same as with the empty one.
+/// Seals without associated data: [`seal`] with `data` empty. Short is the form
+/// of the call, not the text.
 ///
 /// # Errors
 ///
-/// [`Refusal::TextLength`] if the text is longer than 1,048,576 bytes.
+/// As for [`seal`], but never [`Refusal::DataLength`].
 pub fn seal_short(key: &Key, nonce: Nonce, text: &[u8]) -> Result<Sealed, Refusal> {
     sealed(nonce, text, |nonce, room, tag| {
         slices::seal_short(key.as_bytes(), nonce, text, room, tag)
     })
 }
 
-/// [`open`] without associated data: opens what [`seal_short`] sealed, or
-/// [`seal`] with the empty data.
+/// Opens what was sealed without associated data, by [`seal_short`] or by
+/// [`seal`] with `data` empty.
 ///
 /// ```
 /// use vespruldo::{open, open_short, seal_short, Drawer, Key};

@@ -4,13 +4,13 @@ use crate::archive::{
     self, vespruldo_drawer_draw, vespruldo_drawer_iv, vespruldo_drawer_start, Drawn,
 };
 use crate::bytes::{Iv, Nonce};
-use crate::refusal::{outcome, Refusal};
+use crate::refusal::{result_of, Refusal};
 
 /// A drawer of nonces: a reader number and a count, both given at its start.
 /// Each draw hands out the two in 12 bytes, and the count grows by one. What is
 /// drawn from one drawer never repeats.
 ///
-/// A drawer cannot be copied or cloned, for a copy would hand out the same
+/// A drawer cannot be copied or cloned, since a copy would hand out the same
 /// numbers again:
 ///
 /// ```compile_fail,E0599
@@ -18,7 +18,7 @@ use crate::refusal::{outcome, Refusal};
 /// let copy = drawer.clone();
 /// ```
 ///
-/// For each text that is sealed a nonce is drawn:
+/// A nonce is drawn for each text that is sealed:
 ///
 /// ```
 /// use vespruldo::{open, seal, Drawer, Key};
@@ -54,7 +54,7 @@ pub struct Drawer(archive::Drawer);
 impl Drawer {
     /// The drawer with this reader number and this count. Readers that share a
     /// key need different reader numbers, and a reader that starts again must
-    /// go on from the count it had come to.
+    /// go on from the count it had reached.
     #[must_use]
     pub fn start(reader: u32, count: u64) -> Drawer {
         // SAFETY: see the crate's root.
@@ -92,8 +92,7 @@ impl Drawer {
             .map(Nonce::from)
     }
 
-    /// Draws an iv: one draw written four times. The count grows by one. A
-    /// refused iv leaves the drawer as it was.
+    /// Draws an iv: one [`draw`](Drawer::draw) written four times.
     ///
     /// ```
     /// use vespruldo::Drawer;
@@ -122,9 +121,9 @@ impl Drawer {
         self.0.reader
     }
 
-    /// The count of the next draw. Written down after a draw and before the
-    /// number drawn is used, it is where a restart may go on: that number is
-    /// then never drawn again.
+    /// The count of the next draw. Store it after each draw, before the number
+    /// drawn is used: a restart that goes on from it never draws that number
+    /// again.
     #[must_use]
     pub fn count(&self) -> u64 {
         self.0.count
@@ -137,7 +136,7 @@ impl Drawer {
         draw: impl FnOnce(archive::Drawer) -> Drawn<N>,
     ) -> Result<[u8; N], Refusal> {
         let drawn = draw(self.0);
-        outcome(drawn.number, &[Refusal::DrawerSpent])?;
+        result_of(drawn.number, &[Refusal::DrawerSpent])?;
         self.0 = drawn.next;
         Ok(drawn.bytes)
     }

@@ -8,9 +8,9 @@
 //! use vespruldo::{open, seal, Drawer, Key, Refusal, Sealed};
 //!
 //! let key = Key::from([1; 16]);
-//! let mut drawer = Drawer::start(7, 0); // the reader's number, and where it had come to
+//! let mut drawer = Drawer::start(7, 0); // the reader's number, and the count it had reached
 //! let nonce = drawer.draw()?;
-//! // Here the new `drawer.count()` is written down, before the nonce is used.
+//! // Here the new `drawer.count()` is stored, before the nonce is used.
 //! let Sealed { nonce, ciphertext, tag } = seal(&key, nonce, b"class 7", b"Anna, desk 4")?;
 //! let stored = [nonce.as_bytes(), &ciphertext[..], tag.as_bytes()].concat();
 //!
@@ -29,7 +29,7 @@
 //! # Ok::<(), Refusal>(())
 //! ```
 //!
-//! The key can stay in the key book that it stands in:
+//! The key can stay in its key book:
 //!
 //! ```
 //! use vespruldo::{find_key, seal, Drawer};
@@ -46,15 +46,15 @@
 //! What is refused comes back as a [`Refusal`], with the number and the words of
 //! document 01. The types rule out the rest:
 //!
-//! - A key, nonce, iv or tag has the right length from when it is made.
+//! - A key, nonce, iv or tag has the right length from the moment it is made.
 //! - A [`Drawer`], a [`Nonce`] and an [`Iv`] cannot be copied, and [`seal`] takes
 //!   its nonce for good: none is used twice by a slip.
-//! - A [`Key`], [`StreamKey`] or [`WideKey`] is not printed or compared, and is
+//! - A [`Key`], [`StreamKey`] or [`WideKey`] is never printed or compared, and is
 //!   wiped when dropped.
-//! - There is no text to read where [`open`] refuses.
+//! - If [`open`] refuses, there is no text to read.
 //!
 //! The lengths that are allowed have names in [`sizes`]. The functions in
-//! [`slices`] take bytes of every length and write to room that is lent; those at
+//! [`slices`] take slices of any length and write to room that is lent; those at
 //! the root allocate what [`seal`] and [`open`] answer, and nothing else.
 
 // Why the calls into the archive are safe. Each of its functions reads and
@@ -64,7 +64,7 @@
 // written one (two in sealing: room and tag) is lent mutably, so no other
 // overlaps it. Key books are only read and may overlap. Drawers, and answers
 // that are more than a number, go by value in the layout that C gives them;
-// they hold numbers and bytes alone, of which every value is allowed.
+// they hold only numbers and bytes, for which every value is allowed.
 
 #[doc(hidden)]
 pub mod archive;

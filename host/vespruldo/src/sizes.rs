@@ -1,16 +1,16 @@
-//! The lengths in bytes of document 01, by the names of the C header without
-//! its prefix: `_BYTES` is the one that is allowed, `_MIN` and `_MAX` are the
-//! least and the greatest.
+//! The lengths in bytes that document 01 allows, by the names of the C header
+//! without its prefix: `_BYTES` is the only one, `_MIN` and `_MAX` are the least
+//! and the greatest.
 
-/// Key of sealing, opening and GIFT-128.
+/// Key for sealing, opening and GIFT-128.
 pub const KEY_BYTES: usize = 16;
-/// Nonce of sealing and opening.
+/// Nonce for sealing and opening.
 pub const NONCE_BYTES: usize = 12;
-/// Tag of sealing and opening.
+/// Tag for sealing and opening.
 pub const TAG_BYTES: usize = 16;
-/// Associated data of sealing and opening.
+/// Associated data for sealing and opening.
 pub const DATA_MAX: usize = 65_536;
-/// Text of sealing, ChaCha20 and BLAKE2b, and ciphertext.
+/// Text for sealing, ChaCha20 and BLAKE2b; ciphertext for opening.
 pub const TEXT_MAX: usize = 1_048_576;
 /// Block of GIFT-128.
 pub const GIFT_BLOCK_BYTES: usize = 16;

@@ -17,7 +17,8 @@ folded-of-requires c κs = search needs
 
 returns : tie.Need-returns
 returns c =
-    compress-is _ _ _ _ _ _ _ _ (c .before .before .before .before .words-of .ensures) (c .before .before .vector-of .ensures) (c .before .rounds-of .ensures) (c .folded-of .ensures)
+    compress-is _ _ _ _ _ _ _ _ (c .before .before .before .before .words-of .ensures)
+    (c .before .before .vector-of .ensures) (c .before .rounds-of .ensures) (c .folded-of .ensures)
 
 pub compress-of-spec : {M : Type 1} → statement M
 compress-of-spec =

@@ -16,13 +16,16 @@ returns : tie.Need-returns
 unfolding digesting
 returns c =
     let a = c .before .before .before .before .before .args in
-    judged-refused (rows (length (now (a .key))) (length (now (a .text))) (length (now (a .room)))) (c .before .refusal .ensures) _ _ (c .if1 .taken)
+    judged-refused (rows (length (now (a .key))) (length (now (a .text))) (length (now (a .room))))
+    (c .before .refusal .ensures) _ _ (c .if1 .taken)
 
 -- nothing is refused
-clear : (c : tie.Else1) → let a = c .before .before .before .before .before .args in Clear (rows (length (now (a .key))) (length (now (a .text))) (length (now (a .room))))
+clear : (c : tie.Else1) → let a = c .before .before .before .before .before .args in
+    Clear (rows (length (now (a .key))) (length (now (a .text))) (length (now (a .room))))
 clear c =
     let a = c .before .before .before .before .before .args in
-    judged-clear (rows (length (now (a .key))) (length (now (a .text))) (length (now (a .room)))) (c .before .refusal .ensures) tt (c .if1 .left)
+    judged-clear (rows (length (now (a .key))) (length (now (a .text))) (length (now (a .room))))
+    (c .before .refusal .ensures) tt (c .if1 .left)
 
 hash-of-requires : tie.Need-hash-of-requires
 hash-of-requires c κs =
@@ -43,7 +46,8 @@ returns-2 c =
     let e = p .before .before .before in
     let a = e .before .before .before .before .before .args in
     let k = clear e in
-    ap (answered 0) (digest-is _ _ _ _ _ (allowed (length (now (a .key))) (length (now (a .text))) (length (now (a .room))) k .room-most) (p .before .before .hash-of .ensures) (p .put-words .ensures))
+    ap (answered 0) (digest-is _ _ _ _ _ (allowed (length (now (a .key))) (length (now (a .text)))
+    (length (now (a .room))) k .room-most) (p .before .before .hash-of .ensures) (p .put-words .ensures))
     ∙ sym (refuse-clear _ _ (rows (length (now (a .key))) (length (now (a .text))) (length (now (a .room)))) k)
 
 pub digest-spec : {M : Type 1} → statement M

@@ -12,7 +12,8 @@ use Rattle.blake.proofs.folded_of.Tie as tie
 
 abbrev Inv-loop : tie.InvT-loop
 Inv-loop h v r₀ i₀ r i =
-    (i ≤ 8) × (length r ≡ 8) × ((j : ℕ) → j < i → getD r j 0 ≡ bitXor (bitXor (getD h j 0) (getD v j 0)) (getD v (j + 8) 0))
+    (i ≤ 8) × (length r ≡ 8) × ((j : ℕ) → j < i
+    → getD r j 0 ≡ bitXor (bitXor (getD h j 0) (getD v j 0)) (getD v (j + 8) 0))
 
 abbrev μ-loop : tie.MeasureT-loop
 μ-loop h v r₀ i₀ r i = 8 - i

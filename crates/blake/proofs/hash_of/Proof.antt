@@ -18,7 +18,8 @@ compress-of-requires c κs = search needs
 returns-2 : tie.Need-returns-2
 returns-2 c =
     let d = c .before .before in
-    alone-is _ _ _ _ (d .if1 .left) (d .before .before .before .before .pre .0) (d .before .start-chain .ensures) (c .before .if2 .taken) (c .compress-of .ensures)
+    alone-is _ _ _ _ (d .if1 .left) (d .before .before .before .before .pre .0) (d .before .start-chain .ensures)
+    (c .before .if2 .taken) (c .compress-of .ensures)
 
 compress-of-requires-2 : tie.Need-compress-of-requires-2
 compress-of-requires-2 c κs = search needs
@@ -29,7 +30,8 @@ absorb-requires-2 c κs = search needs
 returns-3 : tie.Need-returns-3
 returns-3 c =
     let d = c .before .before .before in
-    both-are _ _ _ _ (d .if1 .left) (d .before .before .before .before .pre .0) (d .before .start-chain .ensures) (c .before .before .if2 .left) (c .before .compress-of2 .ensures) (c .absorb2 .ensures)
+    both-are _ _ _ _ (d .if1 .left) (d .before .before .before .before .pre .0) (d .before .start-chain .ensures)
+    (c .before .before .if2 .left) (c .before .compress-of2 .ensures) (c .absorb2 .ensures)
 
 pub hash-of-spec : {M : Type 1} → statement M
 hash-of-spec =

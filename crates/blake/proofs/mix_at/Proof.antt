@@ -25,7 +25,8 @@ mix-requires c κs = search needs
 returns : tie.Need-returns
 returns c =
     let a = c .before .before .before .args in
-    mixing-is (now (a .m)) (a .r) (a .n) (a .a) (a .b) (a .c) (a .d) (c .mix .ensures) (c .before .before .word-of .ensures) (c .before .word-of2 .ensures)
+    mixing-is (now (a .m)) (a .r) (a .n) (a .a) (a .b) (a .c) (a .d) (c .mix .ensures)
+    (c .before .before .word-of .ensures) (c .before .word-of2 .ensures)
 
 pub mix-at-spec : {M : Type 1} → statement M
 mix-at-spec =

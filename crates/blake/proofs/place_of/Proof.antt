@@ -10,7 +10,8 @@ use Rattle.blake.proofs.place_of.Statement.{statement}
 use Rattle.blake.proofs.place_of.Tie as tie
 
 -- the entry, and that it is a place
-place : (c : tie.Start) → let a = c .args in (getD (now (a .s)) (a .r % 10 * 16 + a .i) 0 ≡ sigma (a .r) (a .i)) × (getD (now (a .s)) (a .r % 10 * 16 + a .i) 0 < 16)
+place : (c : tie.Start) → let a = c .args in (getD (now (a .s)) (a .r % 10 * 16 + a .i) 0 ≡ sigma (a .r) (a .i))
+    × (getD (now (a .s)) (a .r % 10 * 16 + a .i) 0 < 16)
 place c = place-is (now (c .args .s)) (c .args .r) (c .args .i) (c .pre .0) (c .pre .2)
 
 mul-result : tie.Need-mul-result

@@ -10,7 +10,8 @@ use Rattle.blake.proofs.put_words.Statement.{statement}
 use Rattle.blake.proofs.put_words.Tie as tie
 
 abbrev Inv-loop : tie.InvT-loop
-Inv-loop room₀ h i₀ room i = (i ≤ 8) × (length room ≡ length room₀) × (sets room (8 * i) (unwords 8 (drop i h)) ≡ sets room₀ 0 (unwords 8 h))
+Inv-loop room₀ h i₀ room i =
+    (i ≤ 8) × (length room ≡ length room₀) × (sets room (8 * i) (unwords 8 (drop i h)) ≡ sets room₀ 0 (unwords 8 h))
 
 abbrev μ-loop : tie.MeasureT-loop
 μ-loop room₀ h i₀ room i = 8 - i
@@ -47,7 +48,8 @@ loop-again c =
     let h = d .args .t2 in (
       omega arith,
       st .store .kept .0 ∙ l .inv .1,
-      words-next 8 (l .i) (l .room) _ _ h (omega (arith, long d)) (st .store .ensures ∙ stored-word (l .room) (8 * l .i) 8 (getD h (l .i) 0) (omega arith)) (l .inv .2),
+      words-next 8 (l .i) (l .room) _ _ h (omega (arith, long d))
+          (st .store .ensures ∙ stored-word (l .room) (8 * l .i) 8 (getD h (l .i) 0) (omega arith)) (l .inv .2),
     )
 
 same-length : tie.Need-same-length Inv-loop μ-loop

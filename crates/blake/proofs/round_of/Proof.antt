@@ -86,7 +86,8 @@ returns : tie.Need-returns
 unfolding round
 returns c =
     let d = c .before .before .before .before .before .before .before .before in
-    square-is (λ q. q .a) (λ q. q .b) (λ q. q .c) (λ q. q .d) (mixing (now (d .args .m)) (d .args .r)) (d .args .t4) (long d) _ _ _ _ _ _ _ _
+    square-is (λ q. q .a) (λ q. q .b) (λ q. q .c) (λ q. q .d) (mixing (now (d .args .m)) (d .args .r)) (d .args .t4)
+    (long d) _ _ _ _ _ _ _ _
     (c .before .before .before .before .before .before .before .mix-at .ensures)
     (c .before .before .before .before .before .before .mix-at2 .ensures)
     (c .before .before .before .before .before .mix-at3 .ensures)

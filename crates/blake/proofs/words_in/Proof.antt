@@ -47,7 +47,8 @@ loop-again c =
     let l = c .before .before .loop in
     let d = c .before .before .before in
     let a = d .before .args in
-    let e = word-is (now (a .s)) (λ k. omega (arith, d .shared-slice-known .given k)) (l .i) (omega arith) (c .load .ensures) in
+    let e = word-is (now (a .s)) (λ k. omega (arith, d .shared-slice-known .given k)) (l .i) (omega arith)
+    (c .load .ensures) in
     (omega arith, length-set (l .m) (l .i) _ ∙ l .inv .1, fill-next _ 0 (l .m) (l .i) _ (omega arith) (l .inv .2) e)
 
 returns : tie.Need-returns Inv-loop μ-loop

@@ -28,8 +28,11 @@ class-at-requires c κs = search needs
 returns : tie.Need-returns Inv-loop μ-loop
 returns c =
     let d = c .before .before .before in
-    let n = d .before .count-of in
-    (found _ _ _ _ (d .loop .inv .1) (omega arith) (sym (c .before .class-at .ensures) ∙ c .if1 .taken) ∙ entry-is _ _ (n .ensures .0), omega (arith, d .loop .inv .0, n .ensures .1))
+    let n = d .before .count-of in (
+      found _ _ _ _ (d .loop .inv .1) (omega arith) (sym (c .before .class-at .ensures) ∙ c .if1 .taken)
+          ∙ entry-is _ _ (n .ensures .0),
+      omega (arith, d .loop .inv .0, n .ensures .1),
+    )
 
 add-i : tie.Need-add-i Inv-loop μ-loop
 add-i c = search needs
@@ -39,13 +42,19 @@ loop-less c = search needs
 
 loop-again : tie.Need-loop-again Inv-loop μ-loop
 loop-again c =
-    let d = c .before .before .before in
-    (omega arith, goes-on _ _ _ _ (d .loop .inv .1) (omega arith) (λ e. c .if1 .left (c .before .class-at .ensures ∙ e)))
+    let d = c .before .before .before in (
+      omega arith,
+      goes-on _ _ _ _ (d .loop .inv .1) (omega arith)
+          (λ e. c .if1 .left (c .before .class-at .ensures ∙ e)),
+    )
 
 returns-2 : tie.Need-returns-2 Inv-loop μ-loop
 returns-2 c =
-    let n = c .before .before .count-of in
-    (ended _ _ _ _ (c .before .loop .inv .1) (omega arith) ∙ entry-is _ _ (n .ensures .0), omega (arith, c .before .loop .inv .0, n .ensures .1))
+    let n = c .before .before .count-of in (
+      ended _ _ _ _ (c .before .loop .inv .1) (omega arith)
+          ∙ entry-is _ _ (n .ensures .0),
+      omega (arith, c .before .loop .inv .0, n .ensures .1),
+    )
 
 pub entry-of-spec : {M : Type 1} → statement M
 entry-of-spec =

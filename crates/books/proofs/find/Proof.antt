@@ -20,8 +20,15 @@ row-requires-2 : tie.Need-row-requires-2
 row-requires-2 c κs = search needs
 
 -- both books are judged by the definition's rows
-judged : (c : tie.After-row2) → let a = c .before .before .before .before .before .before .args in c .row2 .result ≡ numberOf (badlyFormed (now (a .this-term)) (now (a .last-term)))
-judged c = rw (c .row2 .ensures, c .before .row .ensures, c .before .before .before .well-formed .ensures, c .before .before .well-formed2 .ensures)
+judged : (c : tie.After-row2) → let a = c .before .before .before .before .before .before .args in
+    c .row2 .result ≡ numberOf (badlyFormed (now (a .this-term)) (now (a .last-term)))
+judged c =
+    rw (
+      c .row2 .ensures,
+      c .before .row .ensures,
+      c .before .before .before .well-formed .ensures,
+      c .before .before .well-formed2 .ensures,
+    )
 
 nowhere-requires : tie.Need-nowhere-requires
 nowhere-requires c κs = search needs
@@ -43,7 +50,8 @@ key-in-requires-2 c κs = search needs
 returns-3 : tie.Need-returns-3
 returns-3 c =
     let f = c .before .before .before in
-    in-last _ _ _ (judged (f .before .before)) (f .before .if1 .left) (f .key-in .ensures) (c .before .if2 .left) (c .key-in2 .ensures)
+    in-last _ _ _ (judged (f .before .before)) (f .before .if1 .left) (f .key-in .ensures) (c .before .if2 .left)
+    (c .key-in2 .ensures)
 
 pub find-spec : {M : Type 1} → statement M
 find-spec =

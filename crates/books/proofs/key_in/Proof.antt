@@ -31,7 +31,10 @@ nowhere-requires c κs = search needs
 returns-2 : tie.Need-returns-2
 returns-2 c =
     let d = c .before .before in
-    ap answerOf (c .nowhere .ensures) ∙ rw (holds-is _ _ (d .before .entry-of .ensures .0) (d .count-of .ensures .0), le-ltb _ _ (c .before .if1 .left))
+    ap answerOf (c .nowhere .ensures) ∙ rw (
+      holds-is _ _ (d .before .entry-of .ensures .0) (d .count-of .ensures .0),
+      le-ltb _ _ (c .before .if1 .left),
+    )
 
 pub key-in-spec : {M : Type 1} → statement M
 key-in-spec =

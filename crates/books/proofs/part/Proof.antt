@@ -24,7 +24,8 @@ fits : (c : tie.After-length-of) →
 fits c =
     let d = c .before .before in
     let a = d .before .before .before .args in
-    part-fits (lent (a .this-term)) (lent (a .last-term)) _ (d .find .ensures) (c .before .book-of .ensures) (c .length-of .ensures)
+    part-fits (lent (a .this-term)) (lent (a .last-term)) _ (d .find .ensures) (c .before .book-of .ensures)
+    (c .length-of .ensures)
 
 add-end : tie.Need-add-end
 add-end c = let h = fits c in omega (arith, h)

@@ -57,13 +57,17 @@ loop-less c = search needs
 
 loop-again : tie.Need-loop-again Inv-loop μ-loop
 loop-again c =
-    let d = c .before .before .before .before in
-    (omega arith, rises _ _ _ (d .loop .inv .1) (omega arith) (omega (arith, c .before .before .class-at .ensures, c .before .class-at2 .ensures, c .if2 .left)))
+    let d = c .before .before .before .before in (
+      omega arith,
+      rises _ _ _ (d .loop .inv .1) (omega arith)
+          (omega (arith, c .before .before .class-at .ensures, c .before .class-at2 .ensures, c .if2 .left)),
+    )
 
 returns-3 : tie.Need-returns-3 Inv-loop μ-loop
 returns-3 c =
     let d = c .before in
-    judged _ (d .before .before .count-of .ensures .0) (d .before .if1 .left) (risen _ _ _ (d .loop .inv .1) (omega arith))
+    judged _ (d .before .before .count-of .ensures .0) (d .before .if1 .left)
+    (risen _ _ _ (d .loop .inv .1) (omega arith))
 
 pub well-formed-spec : {M : Type 1} → statement M
 well-formed-spec =

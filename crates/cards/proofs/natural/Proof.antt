@@ -16,7 +16,12 @@ read-pos : (c : tie.Else1) → pos 0 ≤ℤ toZ w32 (ofZ w32 (c .before .args .n
 read-pos c = ltZ-no (subst (λ (t : Bool). T (not t)) (sym (c .if1 .left)) tt)
 
 cast-result : tie.Need-cast-result
-cast-result c = (yes-nonNeg (read-pos c), subst (λ (z : ℤ). Fits w64 (natAbs z)) (sym (toZ-ofZ w32 (c .before .args .n) (c .before .fits .n))) (record { fits = lt-of-le-of-lt (natAbs-le (c .before .args .n) (c .before .fits .n .sfits)) (lit< tt) }))
+cast-result c = (
+  yes-nonNeg (read-pos c),
+  subst (λ (z : ℤ). Fits w64 (natAbs z))
+      (sym (toZ-ofZ w32 (c .before .args .n) (c .before .fits .n)))
+      (record { fits = lt-of-le-of-lt (natAbs-le (c .before .args .n) (c .before .fits .n .sfits)) (lit< tt) }),
+)
 
 returns : tie.Need-returns
 returns c = search needs

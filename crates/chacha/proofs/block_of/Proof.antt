@@ -13,7 +13,8 @@ use Rattle.chacha.proofs.block_of.Statement.{statement}
 use Rattle.chacha.proofs.block_of.Tie as tie
 
 abbrev Inv-loop : tie.InvT-loop
-Inv-loop s t out₀ i₀ out i = (i ≤ 16) × (length out ≡ 64) × (sets out (4 * i) (unwords 4 (drop i (sums s t))) ≡ unwords 4 (sums s t))
+Inv-loop s t out₀ i₀ out i =
+    (i ≤ 16) × (length out ≡ 64) × (sets out (4 * i) (unwords 4 (drop i (sums s t))) ≡ unwords 4 (sums s t))
 
 abbrev μ-loop : tie.MeasureT-loop
 μ-loop s t out₀ i₀ out i = 16 - i
@@ -64,11 +65,13 @@ loop-again c =
     let t = w .before .before .before .rounds-of .result in
     let s = w .before .before .before .before .args .t1 in
     let h : l .i < 16 = omega arith in
-    let e : w .wrapping-add-u32 .result ≡ getD (sums s t) (l .i) 0 = w .wrapping-add-u32 .ensures ∙ sym (sum-at s t (l .i) h) in (
+    let e : w .wrapping-add-u32 .result ≡ getD (sums s t) (l .i) 0 =
+    w .wrapping-add-u32 .ensures ∙ sym (sum-at s t (l .i) h) in (
       omega arith,
       c .before .store .kept .0 ∙ l .inv .1,
       words-next 4 (l .i) (l .out) _ _ (sums s t) (omega (arith, length-sums s t))
-          (c .before .store .ensures ∙ stored-word (l .out) (4 * l .i) 4 _ (omega arith) ∙ ap (λ (x : ℕ). sets (l .out) (4 * l .i) (bytes 4 x)) e) (l .inv .2),
+          (c .before .store .ensures ∙ stored-word (l .out) (4 * l .i) 4 _ (omega arith)
+          ∙ ap (λ (x : ℕ). sets (l .out) (4 * l .i) (bytes 4 x)) e) (l .inv .2),
     )
 
 returns : tie.Need-returns Inv-loop μ-loop
@@ -76,7 +79,8 @@ returns c =
     let l = c .before .loop in
     let d = c .before .before in
     block-is (d .before .args .t1) _ _ (d .rounds-of .ensures)
-    (words-end 4 (l .i) _ _ (sums (d .before .args .t1) (d .rounds-of .result)) (omega (arith, length-sums (d .before .args .t1) (d .rounds-of .result))) (l .inv .2))
+    (words-end 4 (l .i) _ _ (sums (d .before .args .t1) (d .rounds-of .result))
+    (omega (arith, length-sums (d .before .args .t1) (d .rounds-of .result))) (l .inv .2))
 
 pub block-of-spec : {M : Type 1} → statement M
 block-of-spec =

@@ -23,7 +23,14 @@ row-requires-4 c κs = search needs
 returns : tie.Need-returns
 returns c =
     let r = c .before .before .before in
-    rw (c .row4 .ensures, c .before .row3 .ensures, c .before .before .row2 .ensures, r .row .ensures, r .before .blocks-in .ensures .0)
+    rw (
+      c .row4 .ensures,
+      c .before .row3 .ensures,
+      c .before .before .row2 .ensures,
+      r .row .ensures,
+      r .before .blocks-in .ensures .0,
+    )
 
 pub refusal-spec : {M : Type 1} → statement M
-refusal-spec = tie.close (tie.spec blocks-in-requires add-row row-requires row-requires-2 row-requires-3 row-requires-4 returns)
+refusal-spec =
+    tie.close (tie.spec blocks-in-requires add-row row-requires row-requires-2 row-requires-3 row-requires-4 returns)

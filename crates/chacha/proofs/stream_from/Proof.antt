@@ -77,7 +77,8 @@ loop-again c =
       c .before .before .add .kept .0 ∙ l .inv .3,
       length-set (l .s) 12 (l .c) ∙ l .inv .4,
       λ x. ap (λ (s : List ℕ). set s 12 x) (l .inv .5 (l .c)) ∙ start-set _ _ (l .c) x,
-      stream-next (now (a .key)) (now (a .nonce)) (l .text) _ _ _ (l .c) (l .i) _ m ek (c .before .before .add .ensures) em (l .inv .6),
+      stream-next (now (a .key)) (now (a .nonce)) (l .text) _ _ _ (l .c) (l .i) _ m ek (c .before .before .add .ensures)
+          em (l .inv .6),
     )
 
 same-length : tie.Need-same-length Inv-loop μ-loop
@@ -88,8 +89,11 @@ returns c =
     let l = c .before .loop in
     let a = c .before .before .before .before .before .before .args in
     let h = c .loop-test .left in
-    let e : blocks (length (now (a .text))) - l .i / 64 ≡ 0 = omega (arith, h, l .inv .0, l .inv .1, l .inv .3) in
-    (stream-end (now (a .key)) (now (a .nonce)) (l .text) _ (l .c) (l .i) _ e (l .inv .6), omega (arith, h, l .inv .0, l .inv .1, l .inv .2, l .inv .3))
+    let e : blocks (length (now (a .text))) - l .i / 64 ≡ 0 = omega (arith, h, l .inv .0, l .inv .1, l .inv .3) in (
+      stream-end (now (a .key)) (now (a .nonce)) (l .text) _ (l .c) (l .i) _ e (l .inv .6),
+      omega
+          (arith, h, l .inv .0, l .inv .1, l .inv .2, l .inv .3),
+    )
 
 pub stream-from-spec : {M : Type 1} → statement M
 stream-from-spec =

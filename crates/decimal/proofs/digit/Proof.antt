@@ -48,7 +48,8 @@ none-requires-4 c κs = search needs
 returns-4 : tie.Need-returns-4
 returns-4 c =
     let a = c .before .before .before .before .before .before .before .before .args in
-    let large : 2 ^ 64 ≤ a .d .value * 10 + (a .b - 48) = omega (arith, c .before .before .before .wide .ensures, c .before .if4 .taken) in
+    let large : 2 ^ 64 ≤ a .d .value * 10 + (a .b - 48) =
+    omega (arith, c .before .before .before .wide .ensures, c .before .if4 .taken) in
     rw (c .none4 .ensures) (from-none, λ s. too-large (a .d) (a .b) s large)
 
 mul-t5 : tie.Need-mul-t5
@@ -63,8 +64,13 @@ returns-5 c =
     let w = c .before .before .before in
     let low : w .wide .result ≡ a .b = w .wide .ensures in
     let n = w .before in
-    let small : a .d .value * 10 + (w .wide .result - 48) < 2 ^ 64 = omega (arith, c .before .if4 .left, low) in
-    (from-nothing _ (λ e. absurd (true≢false e)) small, λ s. ap (λ (x : ℕ). from (record { good = true; value = a .d .value * 10 + (x - 48) }) s) low ∙ one-more (a .d) (a .b) s (not-false _ (n .before .before .if1 .left)) (n .before .if2 .left) (n .if3 .left))
+    let small : a .d .value * 10 + (w .wide .result - 48) < 2 ^ 64 = omega (arith, c .before .if4 .left, low) in (
+      from-nothing _ (λ e. absurd (true≢false e)) small,
+      λ s. ap
+          (λ (x : ℕ). from (record { good = true; value = a .d .value * 10 + (x - 48) }) s) low
+          ∙ one-more (a .d) (a .b) s (not-false _ (n .before .before .if1 .left)) (n .before .if2 .left)
+          (n .if3 .left),
+    )
 
 pub digit-spec : {M : Type 1} → statement M
 digit-spec =

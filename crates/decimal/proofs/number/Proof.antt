@@ -33,8 +33,11 @@ loop-less c = omega arith
 
 loop-again : tie.Need-loop-again Inv-loop μ-loop
 loop-again c =
-    let l = c .before .before .before in
-    (c .digit .ensures .0, turn (l .before .before .args .word .now) (l .loop .i) (l .loop .d) (c .digit .result) (omega arith) (c .digit .ensures .1) (l .loop .inv .1))
+    let l = c .before .before .before in (
+      c .digit .ensures .0,
+      turn (l .before .before .args .word .now) (l .loop .i) (l .loop .d) (c .digit .result)
+          (omega arith) (c .digit .ensures .1) (l .loop .inv .1),
+    )
 
 returns : tie.Need-returns Inv-loop μ-loop
 returns c =

@@ -22,7 +22,12 @@ next-nonce-requires : tie.Need-next-nonce-requires
 next-nonce-requires c κs = search needs
 
 add-start : tie.Need-add-start
-add-start c = omega (arith, room-left forNonce (c .before .before .before .before .args .d) (c .before .before .before .refusal .ensures) (c .before .before .if1 .left))
+add-start c =
+    omega (
+      arith,
+      room-left forNonce (c .before .before .before .before .args .d)
+          (c .before .before .before .refusal .ensures) (c .before .before .if1 .left),
+    )
 
 start-requires : tie.Need-start-requires
 start-requires c κs = search needs
@@ -30,7 +35,8 @@ start-requires c κs = search needs
 returns-2 : tie.Need-returns-2
 returns-2 c =
     let e = c .before .before .before in
-    ap₂ (λ (b : List ℕ) (n : Drawer). answered 0 (record { bytes = b; next = n })) (c .before .before .next-nonce .ensures) (c .start .ensures)
+    ap₂ (λ (b : List ℕ) (n : Drawer). answered 0 (record { bytes = b; next = n }))
+    (c .before .before .next-nonce .ensures) (c .start .ensures)
     ∙ drawn-is forNonce (e .before .before .args .d) (e .before .refusal .ensures) (e .if1 .left)
 
 pub draw-spec : {M : Type 1} → statement M

@@ -47,7 +47,8 @@ returns c =
     let p = c .before .before .before .before .before in
     let q = p .before .before .before .before .before .before .before .before in
     let r = q .before .before .before .before .before .draw in
-    iv-is _ _ _ _ _ _ _ _ (r .ensures) (q .add .ensures) (p .before .before .before .before .add2 .ensures) (p .add3 .ensures) (c .before .add4 .ensures)
+    iv-is _ _ _ _ _ _ _ _ (r .ensures) (q .add .ensures) (p .before .before .before .before .add2 .ensures)
+    (p .add3 .ensures) (c .before .add4 .ensures)
 
 pub iv-spec : {M : Type 1} → statement M
 iv-spec =

@@ -42,7 +42,8 @@ returns c =
     let e = f .before .before .before .before in
     let g = e .before .before .before .before in
     let s = g .before .before .before .before in
-    kept-is (s .before .args .d) _ _ _ _ _ (s .next-nonce .ensures) (g .digest .ensures) (e .add .ensures) (f .add2 .ensures)
+    kept-is (s .before .args .d) _ _ _ _ _ (s .next-nonce .ensures) (g .digest .ensures) (e .add .ensures)
+    (f .add2 .ensures)
 
 pub keep-spec : {M : Type 1} → statement M
 keep-spec =

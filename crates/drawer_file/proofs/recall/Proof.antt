@@ -33,8 +33,10 @@ returns c =
     let w = m .before .before in
     let k = w .before .before .before .before .before in
     let a = k .before .args in
-    let ed = drawer-is (now (a .s)) (λ i. omega (arith, k .shared-slice-known .given i)) _ _ (w .before .before .before .before .load .ensures) (w .before .before .before .load2 .ensures) in
-    taken-is (now (a .s)) _ _ (w .before .start .ensures ∙ ed) (w .keep .ensures) (sym (m .same .ensures) ∙ c .if1 .taken)
+    let ed = drawer-is (now (a .s)) (λ i. omega (arith, k .shared-slice-known .given i)) _ _
+    (w .before .before .before .before .load .ensures) (w .before .before .before .load2 .ensures) in
+    taken-is (now (a .s)) _ _ (w .before .start .ensures ∙ ed) (w .keep .ensures)
+    (sym (m .same .ensures) ∙ c .if1 .taken)
 
 start-requires-2 : tie.Need-start-requires-2
 start-requires-2 c κs = search needs
@@ -45,8 +47,10 @@ returns-2 c =
     let w = m .before .before in
     let k = w .before .before .before .before .before in
     let a = k .before .args in
-    let ed = drawer-is (now (a .s)) (λ i. omega (arith, k .shared-slice-known .given i)) _ _ (w .before .before .before .before .load .ensures) (w .before .before .before .load2 .ensures) in
-    rw (c .start2 .ensures) (refused-is (now (a .s)) _ _ (w .before .start .ensures ∙ ed) (w .keep .ensures) (sym (m .same .ensures) ∙ c .before .if1 .left))
+    let ed = drawer-is (now (a .s)) (λ i. omega (arith, k .shared-slice-known .given i)) _ _
+    (w .before .before .before .before .load .ensures) (w .before .before .before .load2 .ensures) in
+    rw (c .start2 .ensures) (refused-is (now (a .s)) _ _ (w .before .start .ensures ∙ ed) (w .keep .ensures)
+    (sym (m .same .ensures) ∙ c .before .if1 .left))
 
 pub recall-spec : {M : Type 1} → statement M
 recall-spec =

@@ -31,7 +31,8 @@ returns-2 : tie.Need-returns-2
 returns-2 c =
     let d = c .before .before in
     let a = d .args in
-    ap (λ (m : ℕ). a .b .hi / 2 ^ (a .s - 64) % m) (one-shl (a .w) (d .pre .2)) ∙ field-high (a .b) (a .s) (a .s - 64) (a .w) (omega arith) (omega arith)
+    ap (λ (m : ℕ). a .b .hi / 2 ^ (a .s - 64) % m) (one-shl (a .w) (d .pre .2))
+    ∙ field-high (a .b) (a .s) (a .s - 64) (a .w) (omega arith) (omega arith)
 
 pub bits-at-spec : {M : Type 1} → statement M
 bits-at-spec =

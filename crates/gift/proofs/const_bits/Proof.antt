@@ -18,7 +18,8 @@ returns : tie.Need-returns
 unfolding constBits
 returns c =
     c .put .ensures
-    ∙ ap halves (ap (λ (x : ℕ). bitXor x (2 ^ 127)) (value-is (c .before .spread-of .ensures)) ∙ xor-comm (spread 3 6 (c .before .before .args .c)) (2 ^ 127))
+    ∙ ap halves (ap (λ (x : ℕ). bitXor x (2 ^ 127)) (value-is (c .before .spread-of .ensures))
+    ∙ xor-comm (spread 3 6 (c .before .before .args .c)) (2 ^ 127))
 
 pub const-bits-spec : {M : Type 1} → statement M
 const-bits-spec = tie.close (tie.spec spread-of-requires put-requires returns)

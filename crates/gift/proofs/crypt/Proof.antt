@@ -14,7 +14,8 @@ returns : tie.Need-returns
 unfolding crypting
 returns c =
     let a = c .before .before .before .before .args in
-    judged-refused (rows (length (now (a .key))) (length (now (a .block)))) (c .before .refusal .ensures) _ _ (c .if1 .taken)
+    judged-refused (rows (length (now (a .key))) (length (now (a .block)))) (c .before .refusal .ensures) _ _
+    (c .if1 .taken)
 
 load-requires : tie.Need-load-requires
 load-requires c κs = search needs
@@ -41,8 +42,12 @@ returns-2 c =
     let f = e .before .before in
     let a = f .before .before .before .before .args in
     crypted (a .back) (now (a .key)) (now (a .block))
-    (judged-clear (rows (length (now (a .key))) (length (now (a .block)))) (f .before .refusal .ensures) tt (f .if1 .left))
-    (e .before .load .ensures) (e .round-keys-of .ensures) (d .before .before .load2 .ensures) (d .forty-rounds .ensures) (c .before .before .store .ensures)
+    (judged-clear (rows (length (now (a .key))) (length (now (a .block)))) (f .before .refusal .ensures) tt
+    (f .if1 .left))
+    (e .before .load .ensures) (e .round-keys-of .ensures) (d .before .before .load2 .ensures)
+    (d .forty-rounds .ensures) (c .before .before .store .ensures)
 
 pub crypt-spec : {M : Type 1} → statement M
-crypt-spec = tie.close (tie.spec refusal-requires returns load-requires round-keys-of-requires load-requires-2 forty-rounds-requires store-requires same-length returns-2)
+crypt-spec =
+    tie.close (tie.spec refusal-requires returns load-requires round-keys-of-requires load-requires-2
+    forty-rounds-requires store-requires same-length returns-2)

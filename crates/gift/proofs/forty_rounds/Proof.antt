@@ -51,7 +51,8 @@ loop-again c =
       omega arith,
       c .round-of .ensures
           ∙ ap halves
-          (ap₂ (round (a .back)) (ap (λ (i : ℕ). value (getD (a .a .rounds) i (halves 0))) (d .round-index .ensures .0)) (value-is (l .inv .1))
+          (ap₂ (round (a .back)) (ap (λ (i : ℕ). value (getD (a .a .rounds) i (halves 0))) (d .round-index .ensures .0))
+          (value-is (l .inv .1))
           ∙ iterate-next (λ i. round (a .back) (f i)) (l .r) (value (a .x)) refl refl),
     )
 
@@ -61,7 +62,8 @@ returns c =
     let l = c .before .loop in
     let a = c .before .before .before .args in
     let e : l .r ≡ 40 = omega arith in
-    l .inv .1 ∙ ap (λ (n : ℕ). halves (rounds (a .back) (λ i. value (getD (a .a .rounds) (cond (a .back) (39 - i) i) (halves 0))) n (value (a .x)))) e
+    l .inv .1 ∙ ap (λ (n : ℕ). halves (rounds (a .back)
+    (λ i. value (getD (a .a .rounds) (cond (a .back) (39 - i) i) (halves 0))) n (value (a .x)))) e
 
 pub forty-rounds-spec : {M : Type 1} → statement M
 forty-rounds-spec =

@@ -14,7 +14,8 @@ mul-t6 : tie.Need-mul-t6
 mul-t6 c = search needs
 
 add-t7 : tie.Need-add-t7
-add-t7 c = record { fits = keyStep-fits _ (c .before .before .before .before .before .before .args .k .hi) (omega arith) }
+add-t7 c =
+    record { fits = keyStep-fits _ (c .before .before .before .before .before .before .args .k .hi) (omega arith) }
 
 mul-t9 : tie.Need-mul-t9
 mul-t9 c = search needs
@@ -31,7 +32,8 @@ add-t12 c = search needs
 returns : tie.Need-returns
 returns c =
     let d = c .before .before .before in
-    keyStep-is (d .before .before .before .before .args .k) _ _ (omega arith) (d .before .before .rotr16 .ensures .0) (d .rotr162 .ensures .0)
+    keyStep-is (d .before .before .before .before .args .k) _ _ (omega arith) (d .before .before .rotr16 .ensures .0)
+    (d .rotr162 .ensures .0)
 
 pub key-step-spec : {M : Type 1} → statement M
 key-step-spec =

@@ -24,7 +24,15 @@ abbrev μ-loop : tie.MeasureT-loop
 
 loop-holds : tie.Need-loop-holds Inv-loop μ-loop
 unfolding iterate
-loop-holds c = (omega arith, omega arith, refl, sym (halves-value (c .args .key) (omega arith)), refl, λ j h. absurd (not-suc-le-zero h))
+loop-holds c = (
+  omega arith,
+  omega arith,
+  refl,
+  sym (halves-value (c .args .key) (omega arith)),
+  refl,
+  λ j h. absurd
+      (not-suc-le-zero h),
+)
 
 step-const-requires : tie.Need-step-const-requires Inv-loop μ-loop
 step-const-requires c κs = omega arith
@@ -65,7 +73,9 @@ loop-again c =
       state-next k (l .i) (l .inv .3) (c .key-step .ensures),
       length-set (l .out) (l .i) (c .before .xor .result) ∙ l .inv .4,
       fill-next (λ j. halves (roundKey k j)) (halves 0) (l .out) (l .i) (c .before .xor .result) e (l .inv .5)
-          (roundKey-next k (l .i) (l .inv .3) (l .inv .2) (d .step-const .ensures .0) (c .before .before .before .key-bits .ensures) (c .before .before .const-bits .ensures) (c .before .xor .ensures)),
+          (roundKey-next k (l .i) (l .inv .3) (l .inv .2) (d .step-const .ensures .0)
+          (c .before .before .before .key-bits .ensures) (c .before .before .const-bits .ensures)
+          (c .before .xor .ensures)),
     )
 
 returns : tie.Need-returns Inv-loop μ-loop

@@ -25,7 +25,8 @@ returns c =
     let a = d .before .args in
     c .sub-cells .ensures
     ∙ ap halves
-    (ap (subCells (a .back)) (value-is (c .before .perm-bits .ensures) ∙ ap (permBits (a .back)) (value-is (c .before .before .xor .ensures)))
+    (ap (subCells (a .back)) (value-is (c .before .perm-bits .ensures)
+    ∙ ap (permBits (a .back)) (value-is (c .before .before .xor .ensures)))
     ∙ ap (λ (b : Bool). subCells b (permBits b (bitXor (value (a .x)) (value (a .a))))) (d .if1 .taken)
     ∙ round-is (value (a .a)) (value (a .x)) .1
     ∙ ap (λ (b : Bool). round b (value (a .a)) (value (a .x))) (sym (d .if1 .taken)))
@@ -45,7 +46,8 @@ returns-2 c =
     let a = d .before .args in
     c .xor2 .ensures
     ∙ ap halves
-    (ap (λ (y : ℕ). bitXor y (value (a .a))) (value-is (c .before .perm-bits2 .ensures) ∙ ap (permBits (a .back)) (value-is (c .before .before .sub-cells2 .ensures)))
+    (ap (λ (y : ℕ). bitXor y (value (a .a))) (value-is (c .before .perm-bits2 .ensures)
+    ∙ ap (permBits (a .back)) (value-is (c .before .before .sub-cells2 .ensures)))
     ∙ ap (λ (b : Bool). bitXor (permBits b (subCells b (value (a .x)))) (value (a .a))) (d .if1 .left)
     ∙ round-is (value (a .a)) (value (a .x)) .0
     ∙ ap (λ (b : Bool). round b (value (a .a)) (value (a .x))) (sym (d .if1 .left)))

@@ -19,8 +19,11 @@ shr-result c = search needs
 returns : tie.Need-returns
 unfolding sbox source
 returns c =
-    let d = c .before in
-    (ap (λ (p : ℕ). p / 2 ^ (4 * d .args .n) % 16) (c .either .ensures) ∙ packed (d .args .back) _ _ tt tt (d .args .n) (d .pre), mod-lt _ (zero-lt-suc 15))
+    let d = c .before in (
+      ap (λ (p : ℕ). p / 2 ^ (4 * d .args .n) % 16) (c .either .ensures)
+          ∙ packed (d .args .back) _ _ tt tt (d .args .n) (d .pre),
+      mod-lt _ (zero-lt-suc 15),
+    )
 
 pub sbox-of-spec : {M : Type 1} → statement M
 sbox-of-spec = tie.close (tie.spec either-requires mul-result shr-result returns)

@@ -33,7 +33,8 @@ sbox-of-requires : tie.Need-sbox-of-requires Inv-loop μ-loop
 sbox-of-requires c κs = omega arith
 
 put-requires : tie.Need-put-requires Inv-loop μ-loop
-put-requires c κs = (omega arith, put-fits _ 4 (4 * c .before .before .before .loop .j) (c .sbox-of .ensures .1) (omega arith))
+put-requires c κs =
+    (omega arith, put-fits _ 4 (4 * c .before .before .before .loop .j) (c .sbox-of .ensures .1) (omega arith))
 
 add-j : tie.Need-add-j Inv-loop μ-loop
 add-j c = omega arith
@@ -48,7 +49,9 @@ loop-again c =
     let a = d .before .args in (
       omega arith,
       sum-next (λ k. sbox (a .back) (nibble k (value (a .x))) * 16 ^ k) (l .j) (l .inv .1) (c .put .ensures)
-          (ap₂ (λ (v p : ℕ). v * p) (c .before .sbox-of .ensures .0 ∙ ap (sbox (a .back)) (c .before .before .bits-at .ensures ∙ ap (λ (p : ℕ). value (a .x) / p % 16) (sym (pow-pow 4 (l .j))))) (sym (pow-pow 4 (l .j)))),
+          (ap₂ (λ (v p : ℕ). v * p) (c .before .sbox-of .ensures .0
+          ∙ ap (sbox (a .back)) (c .before .before .bits-at .ensures
+          ∙ ap (λ (p : ℕ). value (a .x) / p % 16) (sym (pow-pow 4 (l .j))))) (sym (pow-pow 4 (l .j)))),
     )
 
 returns : tie.Need-returns Inv-loop μ-loop

@@ -19,29 +19,75 @@ returns-2 c = (simp (le-ltb _ _ (c .before .if1 .left), lt-ltb _ _ (c .if2 .take
 
 returns-3 : tie.Need-returns-3
 unfolding meaning
-returns-3 c = (simp (le-ltb _ _ (c .before .before .if1 .left), le-ltb _ _ (c .before .if2 .left), lt-ltb _ _ (c .if3 .taken)), lit≤ tt)
+returns-3 c = (
+  simp (le-ltb _ _ (c .before .before .if1 .left), le-ltb _ _ (c .before .if2 .left), lt-ltb _ _ (c .if3 .taken)),
+  lit≤ tt,
+)
 
 sub-result : tie.Need-sub-result
 sub-result c = search needs
 
 returns-4 : tie.Need-returns-4
 unfolding meaning
-returns-4 c = (simp (le-ltb _ _ (c .before .before .before .if1 .left), le-ltb _ _ (c .before .before .if2 .left), le-ltb _ _ (c .before .if3 .left), lt-ltb _ _ (c .if4 .taken)), omega arith)
+returns-4 c = (
+  simp (
+    le-ltb _ _ (c .before .before .before .if1 .left),
+    le-ltb _ _ (c .before .before .if2 .left),
+    le-ltb _ _
+        (c .before .if3 .left),
+    lt-ltb _ _ (c .if4 .taken),
+  ),
+  omega arith,
+)
 
 returns-5 : tie.Need-returns-5
 unfolding meaning
-returns-5 c = (simp (le-ltb _ _ (c .before .before .before .before .if1 .left), le-ltb _ _ (c .before .before .before .if2 .left), le-ltb _ _ (c .before .before .if3 .left), le-ltb _ _ (c .before .if4 .left), lt-ltb _ _ (c .if5 .taken)), lit≤ tt)
+returns-5 c = (
+  simp (
+    le-ltb _ _ (c .before .before .before .before .if1 .left),
+    le-ltb _ _ (c .before .before .before .if2 .left),
+    le-ltb _ _ (c .before .before .if3 .left),
+    le-ltb _ _ (c .before .if4 .left),
+    lt-ltb _ _ (c .if5 .taken),
+  ),
+  lit≤
+      tt,
+)
 
 sub-result-2 : tie.Need-sub-result-2
 sub-result-2 c = search needs
 
 returns-6 : tie.Need-returns-6
 unfolding meaning
-returns-6 c = (simp (le-ltb _ _ (c .before .before .before .before .before .if1 .left), le-ltb _ _ (c .before .before .before .before .if2 .left), le-ltb _ _ (c .before .before .before .if3 .left), le-ltb _ _ (c .before .before .if4 .left), le-ltb _ _ (c .before .if5 .left), lt-ltb _ _ (c .if6 .taken)), omega arith)
+returns-6 c = (
+  simp (
+    le-ltb _ _ (c .before .before .before .before .before .if1 .left),
+    le-ltb _ _
+        (c .before .before .before .before .if2 .left),
+    le-ltb _ _ (c .before .before .before .if3 .left),
+    le-ltb _ _
+        (c .before .before .if4 .left),
+    le-ltb _ _ (c .before .if5 .left),
+    lt-ltb _ _ (c .if6 .taken),
+  ),
+  omega arith,
+)
 
 returns-7 : tie.Need-returns-7
 unfolding meaning
-returns-7 c = (simp (le-ltb _ _ (c .before .before .before .before .before .if1 .left), le-ltb _ _ (c .before .before .before .before .if2 .left), le-ltb _ _ (c .before .before .before .if3 .left), le-ltb _ _ (c .before .before .if4 .left), le-ltb _ _ (c .before .if5 .left), le-ltb _ _ (c .if6 .left)), lit≤ tt)
+returns-7 c = (
+  simp (
+    le-ltb _ _ (c .before .before .before .before .before .if1 .left),
+    le-ltb _ _
+        (c .before .before .before .before .if2 .left),
+    le-ltb _ _ (c .before .before .before .if3 .left),
+    le-ltb _ _
+        (c .before .before .if4 .left),
+    le-ltb _ _ (c .before .if5 .left),
+    le-ltb _ _ (c .if6 .left),
+  ),
+  lit≤ tt,
+)
 
 pub meaning-of-spec : {M : Type 1} → statement M
 meaning-of-spec =

@@ -28,7 +28,8 @@ returns-3 : tie.Need-returns-3
 returns-3 c =
     let m = c .before .before .before .before in
     let a = m .before .before .args in
-    read-high (a .b) (record { hex = a .h; room = now (a .room) }) (m .meaning-of .ensures .0) (c .before .before .before .if1 .left) (c .before .before .if2 .left) (not-true _ (c .if3 .taken))
+    read-high (a .b) (record { hex = a .h; room = now (a .room) }) (m .meaning-of .ensures .0)
+    (c .before .before .before .if1 .left) (c .before .before .if2 .left) (not-true _ (c .if3 .taken))
 
 mul-stored : tie.Need-mul-stored
 mul-stored c = search needs
@@ -48,8 +49,12 @@ returns-4 c =
     let e = s .before .before .before in
     let m = e .before .before .before .before in
     let a = m .before .before .args in
-    ap₂ (λ (l : ℕ) (r : List ℕ). record { hex = record { good = a .h .good; half = false; high = 0; len = l }; room = r }) (s .stored .ensures .0) (s .stored .ensures .1)
-    ∙ read-low (a .b) (record { hex = a .h; room = now (a .room) }) (m .meaning-of .ensures .0) (e .before .before .before .if1 .left) (e .before .before .if2 .left) (not-false _ (e .if3 .left))
+    ap₂ (λ (l : ℕ) (r : List ℕ). record {
+      hex = record { good = a .h .good; half = false; high = 0; len = l };
+      room = r;
+    }) (s .stored .ensures .0) (s .stored .ensures .1)
+    ∙ read-low (a .b) (record { hex = a .h; room = now (a .room) }) (m .meaning-of .ensures .0)
+    (e .before .before .before .if1 .left) (e .before .before .if2 .left) (not-false _ (e .if3 .left))
 
 pub one-spec : {M : Type 1} → statement M
 one-spec =

@@ -19,7 +19,9 @@ same-length-2 : tie.Need-same-length-2
 same-length-2 c = search needs
 
 returns-2 : tie.Need-returns-2
-returns-2 c = word-refused _ _ (c .before .before .before .spell .ensures) (c .before .before .before .before .before .if1 .left) (c .if2 .taken)
+returns-2 c =
+    word-refused _ _ (c .before .before .before .spell .ensures) (c .before .before .before .before .before .if1 .left)
+    (c .if2 .taken)
 
 mul-result : tie.Need-mul-result
 mul-result c = search needs
@@ -28,7 +30,9 @@ same-length-3 : tie.Need-same-length-3
 same-length-3 c = search needs
 
 returns-3 : tie.Need-returns-3
-returns-3 c = word-is _ _ (c .before .before .before .spell .ensures) (c .before .before .before .before .before .if1 .left) (c .if2 .left)
+returns-3 c =
+    word-is _ _ (c .before .before .before .spell .ensures) (c .before .before .before .before .before .if1 .left)
+    (c .if2 .left)
 
 pub show-spec : {M : Type 1} → statement M
 show-spec =

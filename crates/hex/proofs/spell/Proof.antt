@@ -16,7 +16,8 @@ use Rattle.hex.proofs.spell.Statement.{statement}
 use Rattle.hex.proofs.spell.Tie as tie
 
 abbrev Inv-loop : tie.InvT-loop
-Inv-loop s room₀ i₀ room i = (length room ≡ length room₀) × (sets room (2 * i) (written (drop i s)) ≡ over (written s) room₀)
+Inv-loop s room₀ i₀ room i =
+    (length room ≡ length room₀) × (sets room (2 * i) (written (drop i s)) ≡ over (written s) room₀)
 
 abbrev μ-loop : tie.MeasureT-loop
 μ-loop s room₀ i₀ room i = length s - i
@@ -24,7 +25,8 @@ abbrev μ-loop : tie.MeasureT-loop
 returns : tie.Need-returns Inv-loop μ-loop
 unfolding spelling
 returns c =
-    let e : length (now (c .before .before .before .args .room)) < 2 * length (now (c .before .before .before .args .s)) = omega (arith, c .if1 .taken) in
+    let e : length (now (c .before .before .before .args .room))
+    < 2 * length (now (c .before .before .before .args .s)) = omega (arith, c .if1 .taken) in
     simp (lt-ltb _ _ e)
 
 loop-holds : tie.Need-loop-holds Inv-loop μ-loop
@@ -49,8 +51,11 @@ loop-again : tie.Need-loop-again Inv-loop μ-loop
 loop-again c =
     let o = c .before .before in
     let l = o .before .before .before .before in
-    let a = l .before .before .before .before .args in
-    (omega (arith, l .loop .inv .0, o .two .kept), write-next (a .s .now) (l .loop .room) _ _ (l .loop .i) (omega arith) (o .two .ensures) (l .loop .inv .1))
+    let a = l .before .before .before .before .args in (
+      omega (arith, l .loop .inv .0, o .two .kept),
+      write-next (a .s .now) (l .loop .room) _ _ (l .loop .i) (omega arith)
+          (o .two .ensures) (l .loop .inv .1),
+    )
 
 same-length : tie.Need-same-length Inv-loop μ-loop
 same-length c = search needs
@@ -62,7 +67,8 @@ returns-2 c =
     let d = l .before in
     let a = d .before .before .before .args in
     let e : 2 * length (now (a .s)) ≤ length (now (a .room)) = omega (arith, d .if1 .left) in
-    simp (le-ltb _ _ e) (ap (answered 0) (write-end (a .s .now) (l .loop .room) _ (l .loop .i) (omega arith) (l .loop .inv .1)))
+    simp (le-ltb _ _ e) (ap (answered 0) (write-end (a .s .now) (l .loop .room) _ (l .loop .i) (omega arith)
+    (l .loop .inv .1)))
 
 pub spell-spec : {M : Type 1} → statement M
 spell-spec =

@@ -10,7 +10,9 @@ use Rattle.hex.proofs.take_in.Statement.{statement}
 use Rattle.hex.proofs.take_in.Tie as tie
 
 abbrev Inv-loop : tie.InvT-loop
-Inv-loop text room₀ s₀ i₀ room s i = (length room ≡ length room₀) × (takenIn (drop i text) (record { hex = s; room = room }) ≡ takenIn text (record { hex = s₀; room = room₀ }))
+Inv-loop text room₀ s₀ i₀ room s i =
+    (length room ≡ length room₀) × (takenIn (drop i text) (record { hex = s; room = room })
+    ≡ takenIn text (record { hex = s₀; room = room₀ }))
 
 abbrev μ-loop : tie.MeasureT-loop
 μ-loop text room₀ s₀ i₀ room s i = length text - i
@@ -34,8 +36,11 @@ loop-again : tie.Need-loop-again Inv-loop μ-loop
 loop-again c =
     let o = c .before .before in
     let l = o .before .before .before .before in
-    let a = l .before .before .before .args in
-    (omega (arith, l .loop .inv .0, o .one .kept), read-next (a .text .now) (l .loop .i) (record { hex = l .loop .s; room = l .loop .room }) _ _ (omega arith) (o .one .ensures) (l .loop .inv .1))
+    let a = l .before .before .before .args in (
+      omega (arith, l .loop .inv .0, o .one .kept),
+      read-next (a .text .now) (l .loop .i)
+          (record { hex = l .loop .s; room = l .loop .room }) _ _ (omega arith) (o .one .ensures) (l .loop .inv .1),
+    )
 
 same-length : tie.Need-same-length Inv-loop μ-loop
 same-length c = c .before .loop .inv .0

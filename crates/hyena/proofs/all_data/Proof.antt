@@ -55,8 +55,11 @@ loop-again c =
     let k = l .before .before in
     let a = k .before .args in
     let h : Bytes (now (a .«data»)) = λ i. omega (arith, k .shared-slice-known .given i) in
-    let t : l .loop .i < before (now (a .«data»)) = omega arith in
-    (omega arith, data-next (enciphers (a .e)) (now (a .«data»)) h (readY (a .b)) (l .loop .i) t (l .loop .inv .1) (c .before .load .ensures) (c .data-block .ensures))
+    let t : l .loop .i < before (now (a .«data»)) = omega arith in (
+      omega arith,
+      data-next (enciphers (a .e)) (now (a .«data»)) h (readY (a .b)) (l .loop .i) t (l .loop .inv .1)
+          (c .before .load .ensures) (c .data-block .ensures),
+    )
 
 mul-last : tie.Need-mul-last Inv-loop μ-loop
 mul-last c = search needs
@@ -84,8 +87,12 @@ returns-2 c =
     let a = k .before .args in
     let h : Bytes (now (a .«data»)) = λ i. omega (arith, k .shared-slice-known .given i) in
     let e : l .loop .i ≡ before (now (a .«data»)) = omega arith in
-    data-end (enciphers (a .e)) (now (a .«data»)) h (readY (a .b)) _ (l .before .if1 .left) (l .loop .inv .1 ∙ ap (λ i. heldY (dataAt (enciphers (a .e)) (now (a .«data»)) (readY (a .b)) i)) e)
+    data-end (enciphers (a .e)) (now (a .«data»)) h (readY (a .b)) _ (l .before .if1 .left)
+    (l .loop .inv .1 ∙ ap (λ i. heldY (dataAt (enciphers (a .e)) (now (a .«data»)) (readY (a .b)) i)) e)
     (f .if-full .ensures) (c .before .load2 .ensures) (c .data-last2 .ensures)
 
 pub all-data-spec : {M : Type 1} → statement M
-all-data-spec = tie.close (tie.spec Inv-loop μ-loop data-last-requires returns sub-n loop-holds mul-load load-requires data-block-requires add-i loop-less loop-again mul-last sub-last if-full-requires mul-load-2 load-requires-2 data-last-requires-2 returns-2)
+all-data-spec =
+    tie.close (tie.spec Inv-loop μ-loop data-last-requires returns sub-n loop-holds mul-load load-requires
+    data-block-requires add-i loop-less loop-again mul-last sub-last if-full-requires mul-load-2 load-requires-2
+    data-last-requires-2 returns-2)

@@ -51,7 +51,8 @@ loop-again c =
     let t : l .loop .i < before (now (a .text)) = omega arith in (
       omega arith,
       search needs,
-      text-next (enciphers (a .e)) (a .opening) (now (a .text)) (now (a .room)) (readX (a .t)) refl (l .loop .i) t (l .loop .inv .2) (p .text-part .ensures .0) (p .text-part .ensures .1),
+      text-next (enciphers (a .e)) (a .opening) (now (a .text)) (now (a .room)) (readX (a .t)) refl (l .loop .i) t
+          (l .loop .inv .2) (p .text-part .ensures .0) (p .text-part .ensures .1),
     )
 
 mul-last : tie.Need-mul-last Inv-loop μ-loop
@@ -80,9 +81,13 @@ returns-2 c =
     let d = l .before .before .before .before in
     let a = d .args in
     let e : l .loop .i ≡ before (now (a .text)) = omega arith in
-    text-end (enciphers (a .e)) (a .opening) (now (a .text)) (now (a .room)) (readX (a .t)) refl _ (l .before .if1 .left)
-    (subst (λ i. Held (textAt (enciphers (a .e)) (a .opening) (now (a .text)) (readX (a .t)) i) (now (a .room)) (l .loop .s) (l .loop .room)) e (l .loop .inv .2))
+    text-end (enciphers (a .e)) (a .opening) (now (a .text)) (now (a .room)) (readX (a .t)) refl _
+    (l .before .if1 .left)
+    (subst (λ i. Held (textAt (enciphers (a .e)) (a .opening) (now (a .text)) (readX (a .t)) i) (now (a .room))
+    (l .loop .s) (l .loop .room)) e (l .loop .inv .2))
     (f .if-full .ensures) (p .text-part2 .ensures .0) (p .text-part2 .ensures .1)
 
 pub all-text-spec : {M : Type 1} → statement M
-all-text-spec = tie.close (tie.spec Inv-loop μ-loop returns sub-n loop-holds mul-text-part text-part-requires add-i loop-less loop-again mul-last sub-last if-full-requires mul-text-part-2 text-part-requires-2 same-length returns-2)
+all-text-spec =
+    tie.close (tie.spec Inv-loop μ-loop returns sub-n loop-holds mul-text-part text-part-requires add-i loop-less
+    loop-again mul-last sub-last if-full-requires mul-text-part-2 text-part-requires-2 same-length returns-2)

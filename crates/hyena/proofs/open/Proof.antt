@@ -16,19 +16,24 @@ returns : tie.Need-returns
 unfolding opening
 returns c =
     let a = c .before .before .before .before .before .before .before .before .args in
-    judged-refused (refusals (inputs (now (a .key)) (now (a .nonce)) (now (a .«data»)) (now (a .ciphertext))) (now (a .tag)) (now (a .room))) (c .before .refusal .ensures) _ _ (c .if1 .taken)
+    judged-refused (refusals (inputs (now (a .key)) (now (a .nonce)) (now (a .«data»)) (now (a .ciphertext)))
+    (now (a .tag)) (now (a .room))) (c .before .refusal .ensures) _ _ (c .if1 .taken)
 
 -- what was handed over, of which no length is refused
 abbrev given : tie.Else1 → Inputs
-given c = let a = c .before .before .before .before .before .before .before .before .args in inputs (now (a .key)) (now (a .nonce)) (now (a .«data»)) (now (a .ciphertext))
+given c = let a = c .before .before .before .before .before .before .before .before .args in
+    inputs (now (a .key)) (now (a .nonce)) (now (a .«data»)) (now (a .ciphertext))
 
-clear : (c : tie.Else1) → let a = c .before .before .before .before .before .before .before .before .args in Clear (refusals (given c) (now (a .tag)) (now (a .room)))
+clear : (c : tie.Else1) → let a = c .before .before .before .before .before .before .before .before .args in
+    Clear (refusals (given c) (now (a .tag)) (now (a .room)))
 clear c =
     let a = c .before .before .before .before .before .before .before .before .args in
     judged-clear (refusals (given c) (now (a .tag)) (now (a .room))) (c .before .refusal .ensures) tt (c .if1 .left)
 
-lengths : (c : tie.Else1) → let a = c .before .before .before .before .before .before .before .before .args in Allowed (given c) (now (a .tag)) (now (a .room))
-lengths c = let a = c .before .before .before .before .before .before .before .before .args in allowed (given c) (now (a .tag)) (now (a .room)) (clear c)
+lengths : (c : tie.Else1) → let a = c .before .before .before .before .before .before .before .before .args in
+    Allowed (given c) (now (a .tag)) (now (a .room))
+lengths c = let a = c .before .before .before .before .before .before .before .before .args in
+    allowed (given c) (now (a .tag)) (now (a .room)) (clear c)
 
 run-requires : tie.Need-run-requires
 run-requires c κs = (lengths (c .before) .key-16, lengths (c .before) .nonce-12)
@@ -51,7 +56,8 @@ returns-2 c =
     let s = c .before in
     let n = s .before .before .before .before in
     let b = n .before .before in
-    opened-is gift (given b) _ _ (clear b) (small n .0) (small n .1) (n .run .ensures .0) (n .run .ensures .1) (s .before .load .ensures) (sym (s .equal .ensures) ∙ c .if2 .taken)
+    opened-is gift (given b) _ _ (clear b) (small n .0) (small n .1) (n .run .ensures .0) (n .run .ensures .1)
+    (s .before .load .ensures) (sym (s .equal .ensures) ∙ c .if2 .taken)
 
 wipe-requires : tie.Need-wipe-requires
 wipe-requires c κs =
@@ -67,7 +73,10 @@ returns-3 c =
     let s = w .before .before .before in
     let n = s .before .before .before .before in
     let b = n .before .before in
-    wrong-is gift (given b) _ _ (clear b) (small n .0) (small n .1) (n .run .ensures .0) (n .run .ensures .1) (s .before .load .ensures) (sym (s .equal .ensures) ∙ w .before .before .if2 .left) (w .wipe .ensures)
+    wrong-is gift (given b) _ _ (clear b) (small n .0) (small n .1) (n .run .ensures .0) (n .run .ensures .1)
+    (s .before .load .ensures) (sym (s .equal .ensures) ∙ w .before .before .if2 .left) (w .wipe .ensures)
 
 pub open-spec : {M : Type 1} → statement M
-open-spec = tie.close (tie.spec refusal-requires returns run-requires load-requires equal-requires same-length returns-2 wipe-requires same-length-2 returns-3)
+open-spec =
+    tie.close (tie.spec refusal-requires returns run-requires load-requires equal-requires same-length returns-2
+    wipe-requires same-length-2 returns-3)

@@ -32,4 +32,5 @@ returns c =
     )
 
 pub refusal-spec : {M : Type 1} → statement M
-refusal-spec = tie.close (tie.spec row-requires row-requires-2 row-requires-3 row-requires-4 row-requires-5 row-requires-6 returns)
+refusal-spec =
+    tie.close (tie.spec row-requires row-requires-2 row-requires-3 row-requires-4 row-requires-5 row-requires-6 returns)

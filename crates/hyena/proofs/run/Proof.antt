@@ -34,8 +34,12 @@ returns c =
     let l = e .before in
     let b = l .before .before .before .before .before .before in
     let a = b .args in
-    ran (a .opening) (now (a .key)) (now (a .nonce)) (now (a .«data»)) (now (a .text)) (now (a .room)) (e .keyed-of .result) (b .pre .0) (b .pre .1)
-    (l .load .ensures) (e .keyed-of .ensures) (s .start .ensures) (d .all-data .ensures) (x .all-text .ensures .0) (x .all-text .ensures .1) (c .tag-of .ensures)
+    ran (a .opening) (now (a .key)) (now (a .nonce)) (now (a .«data»)) (now (a .text)) (now (a .room))
+    (e .keyed-of .result) (b .pre .0) (b .pre .1)
+    (l .load .ensures) (e .keyed-of .ensures) (s .start .ensures) (d .all-data .ensures) (x .all-text .ensures .0)
+    (x .all-text .ensures .1) (c .tag-of .ensures)
 
 pub run-spec : {M : Type 1} → statement M
-run-spec = tie.close (tie.spec load-requires keyed-of-requires start-requires all-data-requires all-text-requires tag-of-requires same-length returns)
+run-spec =
+    tie.close (tie.spec load-requires keyed-of-requires start-requires all-data-requires all-text-requires
+    tag-of-requires same-length returns)

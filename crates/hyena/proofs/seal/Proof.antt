@@ -13,19 +13,24 @@ returns : tie.Need-returns
 unfolding sealing
 returns c =
     let a = c .before .before .before .before .before .before .before .before .args in
-    judged-refused (refusals (inputs (now (a .key)) (now (a .nonce)) (now (a .«data»)) (now (a .text))) (now (a .tag)) (now (a .room))) (c .before .refusal .ensures) _ _ (c .if1 .taken)
+    judged-refused (refusals (inputs (now (a .key)) (now (a .nonce)) (now (a .«data»)) (now (a .text))) (now (a .tag))
+    (now (a .room))) (c .before .refusal .ensures) _ _ (c .if1 .taken)
 
 -- what was handed over, of which no length is refused
 abbrev given : tie.Else1 → Inputs
-given c = let a = c .before .before .before .before .before .before .before .before .args in inputs (now (a .key)) (now (a .nonce)) (now (a .«data»)) (now (a .text))
+given c = let a = c .before .before .before .before .before .before .before .before .args in
+    inputs (now (a .key)) (now (a .nonce)) (now (a .«data»)) (now (a .text))
 
-clear : (c : tie.Else1) → let a = c .before .before .before .before .before .before .before .before .args in Clear (refusals (given c) (now (a .tag)) (now (a .room)))
+clear : (c : tie.Else1) → let a = c .before .before .before .before .before .before .before .before .args in
+    Clear (refusals (given c) (now (a .tag)) (now (a .room)))
 clear c =
     let a = c .before .before .before .before .before .before .before .before .args in
     judged-clear (refusals (given c) (now (a .tag)) (now (a .room))) (c .before .refusal .ensures) tt (c .if1 .left)
 
-lengths : (c : tie.Else1) → let a = c .before .before .before .before .before .before .before .before .args in Allowed (given c) (now (a .tag)) (now (a .room))
-lengths c = let a = c .before .before .before .before .before .before .before .before .args in allowed (given c) (now (a .tag)) (now (a .room)) (clear c)
+lengths : (c : tie.Else1) → let a = c .before .before .before .before .before .before .before .before .args in
+    Allowed (given c) (now (a .tag)) (now (a .room))
+lengths c = let a = c .before .before .before .before .before .before .before .before .args in
+    allowed (given c) (now (a .tag)) (now (a .room)) (clear c)
 
 run-requires : tie.Need-run-requires
 run-requires c κs = (lengths (c .before) .key-16, lengths (c .before) .nonce-12)
@@ -47,4 +52,5 @@ returns-2 c =
     sealed-is gift (given b) _ _ (clear b) (n .run .ensures .0) (n .run .ensures .1) (s .store .ensures)
 
 pub seal-spec : {M : Type 1} → statement M
-seal-spec = tie.close (tie.spec refusal-requires returns run-requires store-requires same-length same-length-2 returns-2)
+seal-spec =
+    tie.close (tie.spec refusal-requires returns run-requires store-requires same-length same-length-2 returns-2)

@@ -28,7 +28,8 @@ returns c =
     let d = k .before in
     let a = d .args in
     let h : Bytes (now (a .text)) = λ i. omega (arith, k .shared-slice-known .given i) in
-    part-is (enciphers (a .e)) (a .opening) (now (a .text)) h (a .t) (a .k) (a .at) (a .n) (now (a .room)) (d .pre .0) (d .pre .1) (t .before .load .ensures)
+    part-is (enciphers (a .e)) (a .opening) (now (a .text)) h (a .t) (a .k) (a .at) (a .n) (now (a .room)) (d .pre .0)
+    (d .pre .1) (t .before .load .ensures)
     (ap (λ u. u .state) (t .text-block .ensures)) (ap (λ u. u .out) (t .text-block .ensures)) (s .store .ensures)
 
 pub text-part-spec : {M : Type 1} → statement M

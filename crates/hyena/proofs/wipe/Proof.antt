@@ -48,4 +48,5 @@ returns c =
     l .loop .inv .2 ∙ ap (λ i. over (replicate i 0) (now (a .room))) e
 
 pub wipe-spec : {M : Type 1} → statement M
-wipe-spec = tie.close (tie.spec Inv-loop μ-loop loop-holds slice-write-room add-i loop-less loop-again same-length returns)
+wipe-spec =
+    tie.close (tie.spec Inv-loop μ-loop loop-holds slice-write-room add-i loop-less loop-again same-length returns)

@@ -16,7 +16,8 @@ double-of-requires c κs = search needs
 returns : tie.Need-returns
 returns c =
     let a = c .before .before .before .args in
-    data-block-is (enciphers (a .e)) (a .b) (a .d) (c .before .before .feedback .ensures) (c .before .block .ensures) (c .double-of .ensures)
+    data-block-is (enciphers (a .e)) (a .b) (a .d) (c .before .before .feedback .ensures) (c .before .block .ensures)
+    (c .double-of .ensures)
 
 pub data-block-spec : {M : Type 1} → statement M
 data-block-spec = tie.close (tie.spec feedback-requires block-requires double-of-requires returns)

@@ -26,7 +26,11 @@ loop-less : tie.Need-loop-less Inv-loop μ-loop
 loop-less c = search needs
 
 loop-again : tie.Need-loop-again Inv-loop μ-loop
-loop-again c = (omega arith, iterate-next (λ i. double) (c .before .before .loop .i) (c .before .before .before .args .mask) (c .before .before .loop .inv .1) (c .double-of .ensures))
+loop-again c = (
+  omega arith,
+  iterate-next (λ i. double) (c .before .before .loop .i) (c .before .before .before .args .mask)
+      (c .before .before .loop .inv .1) (c .double-of .ensures),
+)
 
 returns : tie.Need-returns Inv-loop μ-loop
 returns c =

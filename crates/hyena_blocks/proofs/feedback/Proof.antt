@@ -29,11 +29,15 @@ returns : tie.Need-returns
 returns c =
     let p = c .before .before .before .before in
     let a = p .before .before .before .args in
-    feedback-is (a .opening) (a .y) (a .d) (p .before .before .xor .result) (p .padded .result) (c .before .before .padded2 .result) (a .mask) (a .n)
+    feedback-is (a .opening) (a .y) (a .d) (p .before .before .xor .result) (p .padded .result)
+    (c .before .before .padded2 .result) (a .mask) (a .n)
     (p .before .before .xor .ensures)
     (p .padded .ensures ∙ ap (λ b. halves (number (pad (low (a .n) (value b))))) (p .before .either .ensures))
-    (c .before .before .padded2 .ensures ∙ ap (λ b. halves (number (pad (low (a .n) (value b))))) (c .before .before .before .either2 .ensures))
+    (c .before .before .padded2 .ensures ∙ ap (λ b. halves (number (pad (low (a .n) (value b)))))
+    (c .before .before .before .either2 .ensures))
     (c .xor2 .ensures)
 
 pub feedback-spec : {M : Type 1} → statement M
-feedback-spec = tie.close (tie.spec xor-requires either-requires padded-requires either-requires-2 padded-requires-2 xor-requires-2 returns)
+feedback-spec =
+    tie.close (tie.spec xor-requires either-requires padded-requires either-requires-2 padded-requires-2 xor-requires-2
+    returns)

@@ -22,4 +22,5 @@ returns c =
     padded-is _ (d .args .n) (value (d .args .x)) (c .before .before .before .store .ensures) (c .load-pad .ensures)
 
 pub padded-spec : {M : Type 1} → statement M
-padded-spec = tie.close (tie.spec slice-aggregate-store store-requires slice-aggregate-load-pad load-pad-requires returns)
+padded-spec =
+    tie.close (tie.spec slice-aggregate-store store-requires slice-aggregate-load-pad load-pad-requires returns)

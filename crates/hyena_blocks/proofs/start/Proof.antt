@@ -35,8 +35,10 @@ returns c =
     let a = k .before .args in
     let h : Bytes (now (a .nonce)) = λ i. omega (arith, k .shared-slice-known .given i) in
     started-is (enciphers (a .e)) (startBlock (take 12 (now (a .nonce))) (a .«data») (a .text)) _
-    (start-is (now (a .nonce)) (a .«data») (a .text) _ h (l .before .load .ensures) (l .load2 .ensures) (m .marks .ensures .0))
+    (start-is (now (a .nonce)) (a .«data») (a .text) _ h (l .before .load .ensures) (l .load2 .ensures)
+    (m .marks .ensures .0))
     (c .before .block .ensures) (c .double-of .ensures)
 
 pub start-spec : {M : Type 1} → statement M
-start-spec = tie.close (tie.spec load-requires load-requires-2 marks-requires add-t10 block-requires double-of-requires returns)
+start-spec =
+    tie.close (tie.spec load-requires load-requires-2 marks-requires add-t10 block-requires double-of-requires returns)

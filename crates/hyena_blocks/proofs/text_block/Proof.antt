@@ -19,7 +19,9 @@ xor-requires c κs = search needs
 returns : tie.Need-returns
 returns c =
     let a = c .before .before .before .before .args in
-    text-block-is (enciphers (a .e)) (a .opening) (a .t) (a .k) (a .n) (a .d) (c .before .before .before .doubled .ensures) (c .before .before .block .ensures) (c .before .feedback .ensures) (c .xor .ensures)
+    text-block-is (enciphers (a .e)) (a .opening) (a .t) (a .k) (a .n) (a .d)
+    (c .before .before .before .doubled .ensures) (c .before .before .block .ensures) (c .before .feedback .ensures)
+    (c .xor .ensures)
 
 pub text-block-spec : {M : Type 1} → statement M
 text-block-spec = tie.close (tie.spec doubled-requires block-requires feedback-requires xor-requires returns)

@@ -32,7 +32,8 @@ returns : tie.Need-returns
 returns c =
     let d = c .before .before .before .before .before .before .before .before in
     let p = d .pre in
-    digest-key-is (d .args .j) (now (d .args .key)) (now (d .args .iv)) (p .0 .0) (p .0 .1) (p .1) (p .2) _ _ (c .before .before .before .before .add .ensures) (c .before .add2 .ensures)
+    digest-key-is (d .args .j) (now (d .args .key)) (now (d .args .iv)) (p .0 .0) (p .0 .1) (p .1) (p .2) _ _
+    (c .before .before .before .before .add .ensures) (c .before .add2 .ensures)
 
 pub digest-key-spec : {M : Type 1} → statement M
 digest-key-spec =

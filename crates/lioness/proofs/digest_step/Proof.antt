@@ -51,7 +51,8 @@ returns c =
     let g = s .before .before .before .before in
     let d = g .before .before .before .before .before .before .before .before .before in
     let p = d .pre in
-    digest-step-is (d .args .j) (now (d .args .key)) (now (d .args .iv)) (p .0 .0) (p .0 .1) (p .1 .0) (p .1 .1) (now (d .args .block)) (p .1 .2) (p .1 .3) _ _ _ _ _
+    digest-step-is (d .args .j) (now (d .args .key)) (now (d .args .iv)) (p .0 .0) (p .0 .1) (p .1 .0) (p .1 .1)
+    (now (d .args .block)) (p .1 .2) (p .1 .3) _ _ _ _ _
     (g .before .before .before .before .before .digest-key .ensures) refl (g .digest .ensures) (s .add .ensures)
 
 pub digest-step-spec : {M : Type 1} → statement M

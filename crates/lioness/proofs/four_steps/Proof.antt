@@ -26,7 +26,9 @@ returns c =
     let s2 = s3 .before .before .before .before in
     let s1 = s2 .before .before .before .before in
     let a = s1 .before .before .before .before .before .args in
-    steps-are (now (a .key)) (now (a .iv)) (now (a .block)) _ _ _ _ (a .a) (a .b) (a .c) (a .d) (s1 .step-of .ensures) (s2 .step-of2 .ensures) (s3 .step-of3 .ensures) (s4 .step-of4 .ensures)
+    steps-are (now (a .key)) (now (a .iv)) (now (a .block)) _ _ _ _ (a .a) (a .b) (a .c) (a .d) (s1 .step-of .ensures)
+    (s2 .step-of2 .ensures) (s3 .step-of3 .ensures) (s4 .step-of4 .ensures)
 
 pub four-steps-spec : {M : Type 1} → statement M
-four-steps-spec = tie.close (tie.spec step-of-requires step-of-requires-2 step-of-requires-3 step-of-requires-4 same-length returns)
+four-steps-spec =
+    tie.close (tie.spec step-of-requires step-of-requires-2 step-of-requires-3 step-of-requires-4 same-length returns)

@@ -22,15 +22,19 @@ returns : tie.Need-returns
 unfolding ordered
 returns c =
     let a = c .before .before .before .before .before .args in
-    judged-refused (rows (length (now (a .key))) (length (now (a .iv))) (length (now (a .block)))) (c .before .refusal .ensures) _ _ (c .if1 .taken)
+    judged-refused (rows (length (now (a .key))) (length (now (a .iv))) (length (now (a .block))))
+    (c .before .refusal .ensures) _ _ (c .if1 .taken)
 
 -- nothing is refused
-clear : (c : tie.Else1) → let a = c .before .before .before .before .before .args in Clear (rows (length (now (a .key))) (length (now (a .iv))) (length (now (a .block))))
+clear : (c : tie.Else1) → let a = c .before .before .before .before .before .args in
+    Clear (rows (length (now (a .key))) (length (now (a .iv))) (length (now (a .block))))
 clear c =
     let a = c .before .before .before .before .before .args in
-    judged-clear (rows (length (now (a .key))) (length (now (a .iv))) (length (now (a .block)))) (c .before .refusal .ensures) tt (c .if1 .left)
+    judged-clear (rows (length (now (a .key))) (length (now (a .iv))) (length (now (a .block))))
+    (c .before .refusal .ensures) tt (c .if1 .left)
 
-lengths : (c : tie.Else1) → let a = c .before .before .before .before .before .args in Allowed (now (a .key)) (now (a .iv)) (now (a .block))
+lengths : (c : tie.Else1) → let a = c .before .before .before .before .before .args in
+    Allowed (now (a .key)) (now (a .iv)) (now (a .block))
 lengths c =
     let a = c .before .before .before .before .before .args in
     allowed (now (a .key)) (now (a .iv)) (now (a .block)) (clear c)
@@ -67,8 +71,11 @@ returns-2 c =
     let l = lengths e in
     ap (answered 0)
     (c .before .before .four-steps .ensures
-    ∙ ap₂ (λ (k i : List ℕ). steps chacha blake k i (a .a) (a .b) (a .c) (a .d) (now (a .block))) (take-all 128 (now (a .key)) (omega arith)) (take-all 48 (now (a .iv)) (omega arith)))
+    ∙ ap₂ (λ (k i : List ℕ). steps chacha blake k i (a .a) (a .b) (a .c) (a .d) (now (a .block)))
+    (take-all 128 (now (a .key)) (omega arith)) (take-all 48 (now (a .iv)) (omega arith)))
     ∙ sym (refuse-clear _ _ (rows (length (now (a .key))) (length (now (a .iv))) (length (now (a .block)))) (clear e))
 
 pub in-order-spec : {M : Type 1} → statement M
-in-order-spec = tie.close (tie.spec refusal-requires returns slice-aggregate-four-steps slice-aggregate-four-steps-2 four-steps-requires same-length returns-2)
+in-order-spec =
+    tie.close (tie.spec refusal-requires returns slice-aggregate-four-steps slice-aggregate-four-steps-2
+    four-steps-requires same-length returns-2)

@@ -25,7 +25,8 @@ add-requires-2 c κs = search needs
 returns : tie.Need-returns
 returns c =
     let d = c .before .before .before .before .before .before .before .before in
-    stream-key-is (d .args .j) (now (d .args .key)) (now (d .args .block)) _ _ (d .pre .1) (c .before .before .before .before .add .ensures) (c .before .add2 .ensures)
+    stream-key-is (d .args .j) (now (d .args .key)) (now (d .args .block)) _ _ (d .pre .1)
+    (c .before .before .before .before .add .ensures) (c .before .add2 .ensures)
 
 pub stream-key-spec : {M : Type 1} → statement M
 stream-key-spec =

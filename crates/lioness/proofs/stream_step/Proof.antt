@@ -14,7 +14,8 @@ slice-reshare-prefix-stream-key : tie.Need-slice-reshare-prefix-stream-key
 slice-reshare-prefix-stream-key c = search needs
 
 slice-aggregate-stream-key : tie.Need-slice-aggregate-stream-key
-slice-aggregate-stream-key c = let d = c .before .before .before .before in sym (length-take-le 32 (now (d .args .block)) (omega arith))
+slice-aggregate-stream-key c = let d = c .before .before .before .before in
+    sym (length-take-le 32 (now (d .args .block)) (omega arith))
 
 stream-key-requires : tie.Need-stream-key-requires
 stream-key-requires c κs =
@@ -64,8 +65,10 @@ returns c =
     let d = s .before .before .before .before .before .before .before .before .before in
     let p = d .pre in
     let left-of = take-take 32 32 (now (d .args .block)) (omega arith) in
-    stream-step-is (d .args .j) (now (d .args .key)) (now (d .args .iv)) (p .0 .0) (p .0 .1) (p .1 .0) (p .1 .1) (now (d .args .block)) (p .1 .2) (p .1 .3) _ _ _ _ _
-    refl refl (s .before .before .before .before .stream-key .ensures ∙ ap (λ l. plus l (piece 32 (d .args .j) (now (d .args .key)))) left-of) (s .stream .ensures)
+    stream-step-is (d .args .j) (now (d .args .key)) (now (d .args .iv)) (p .0 .0) (p .0 .1) (p .1 .0) (p .1 .1)
+    (now (d .args .block)) (p .1 .2) (p .1 .3) _ _ _ _ _
+    refl refl (s .before .before .before .before .stream-key .ensures
+    ∙ ap (λ l. plus l (piece 32 (d .args .j) (now (d .args .key)))) left-of) (s .stream .ensures)
 
 pub stream-step-spec : {M : Type 1} → statement M
 stream-step-spec =

@@ -17,7 +17,8 @@ open-refusal-requires c κs = search needs
 returns : tie.Need-returns
 returns c =
     let a = c .before .before .before .before .before .before .before .args in
-    open-refused (now (a .key)) (now (a .«data»)) (now (a .card)) (now (a .room)) (c .before .before .length-in .ensures .0) (c .before .open-refusal .ensures) (c .if1 .taken)
+    open-refused (now (a .key)) (now (a .«data»)) (now (a .card)) (now (a .room))
+    (c .before .before .length-in .ensures .0) (c .before .open-refusal .ensures) (c .if1 .taken)
 
 add-end : tie.Need-add-end
 add-end c = search needs
@@ -29,10 +30,12 @@ part-open-start : tie.Need-part-open-start
 part-open-start c = search needs
 
 -- the card is as long as it says
-whole : (c : tie.Else1) → length (now (c .before .before .before .before .before .before .before .args .card)) ≡ c .before .before .length-in .result + 30
+whole : (c : tie.Else1) → length (now (c .before .before .before .before .before .before .before .args .card))
+    ≡ c .before .before .length-in .result + 30
 whole c =
     let a = c .before .before .before .before .before .before .before .args in
-    open-length (now (a .key)) (now (a .«data»)) (now (a .card)) (now (a .room)) (c .before .before .length-in .ensures .0) (c .before .open-refusal .ensures) (c .if1 .left)
+    open-length (now (a .key)) (now (a .«data»)) (now (a .card)) (now (a .room))
+    (c .before .before .length-in .ensures .0) (c .before .open-refusal .ensures) (c .if1 .left)
 
 part-open-end : tie.Need-part-open-end
 part-open-end c = omega (arith, whole c)
@@ -65,7 +68,9 @@ returns-2 : tie.Need-returns-2
 returns-2 c =
     let d = c .before .before .before .before .before .before .before in
     let a = d .before .before .before .before .before .before .before .args in
-    opened-is (now (a .key)) (now (a .«data»)) (now (a .card)) (now (a .room)) (d .before .before .length-in .ensures .0) (d .before .open-refusal .ensures) (d .if1 .left) (c .before .before .«open» .ensures)
+    opened-is (now (a .key)) (now (a .«data»)) (now (a .card)) (now (a .room))
+    (d .before .before .length-in .ensures .0) (d .before .open-refusal .ensures) (d .if1 .left)
+    (c .before .before .«open» .ensures)
 
 pub open-spec : {M : Type 1} → statement M
 open-spec =

@@ -54,8 +54,10 @@ returns c =
     let d = k .before .before in
     let a = d .args in
     let p = d .pre in
-    written-is (now (a .key)) (now (a .nonce)) (now (a .«data»)) (now (a .text)) (p .0) (p .1) (p .2) (p .3) (now (a .room)) (p .4) (λ i. omega (arith, k .shared-slice-known2 .given i))
-    (v .before .load .ensures) (v .store .ensures) (u .store2 .ensures) (t .seal .ensures) (s .before .load2 .ensures) (s .store3 .ensures)
+    written-is (now (a .key)) (now (a .nonce)) (now (a .«data»)) (now (a .text)) (p .0) (p .1) (p .2) (p .3)
+    (now (a .room)) (p .4) (λ i. omega (arith, k .shared-slice-known2 .given i))
+    (v .before .load .ensures) (v .store .ensures) (u .store2 .ensures) (t .seal .ensures) (s .before .load2 .ensures)
+    (s .store3 .ensures)
 
 pub write-spec : {M : Type 1} → statement M
 write-spec =

@@ -61,8 +61,12 @@ loop-again : tie.Need-loop-again Inv-loop μ-loop
 loop-again c =
     let d = c .before .before .before in
     let l = d .loop in
-    let a = d .before .before .before .before .before .before .before .args in
-    (search needs, simp length-set (l .inv .1), plusAt-next (now (a .t)) (a .from) (a .n) (a .at) (l .i) (l .s) _ (omega arith) (omega arith) (omega arith) (l .inv .2))
+    let a = d .before .before .before .before .before .before .before .args in (
+      search needs,
+      simp length-set (l .inv .1),
+      plusAt-next (now (a .t)) (a .from) (a .n) (a .at) (l .i) (l .s) _
+          (omega arith) (omega arith) (omega arith) (l .inv .2),
+    )
 
 same-length : tie.Need-same-length Inv-loop μ-loop
 same-length c = c .before .loop .inv .1
@@ -72,8 +76,10 @@ returns c =
     let l = c .before .loop in
     let d = c .before .before in
     let a = d .before .before .before .before .before .before .args in
-    let e = d .least2 .ensures ∙ ap₂ min (d .before .before .before .remaining .ensures) (d .before .least .ensures ∙ ap (min (a .n)) (d .before .before .remaining2 .ensures)) in
-    let f : min (length (now (a .s)) - a .at) (min (a .n) (length (now (a .t)) - a .from)) ≡ min (length (l .s) - a .at) (min (a .n) (length (now (a .t)) - a .from)) =
+    let e = d .least2 .ensures ∙ ap₂ min (d .before .before .before .remaining .ensures)
+    (d .before .least .ensures ∙ ap (min (a .n)) (d .before .before .remaining2 .ensures)) in
+    let f : min (length (now (a .s)) - a .at) (min (a .n) (length (now (a .t)) - a .from))
+    ≡ min (length (l .s) - a .at) (min (a .n) (length (now (a .t)) - a .from)) =
     ap (λ (k : ℕ). min (k - a .at) (min (a .n) (length (now (a .t)) - a .from))) (sym (l .inv .1)) in
     sym (plusAt-end (now (a .t)) (a .from) (a .n) (a .at) (l .i) (l .s) _ (e ∙ f) (c .loop-test .left)) ∙ l .inv .2
 

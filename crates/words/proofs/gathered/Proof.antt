@@ -18,7 +18,8 @@ returns c =
     let d = c .before .before .before in
     let a = d .before .args in
     ap (λ (l : ℕ). record { lo = l; hi = 0 }) (c .word .ensures)
-    ∙ sym (gathered-short (now (a .s)) (λ k. omega (arith, d .shared-slice-known .given k)) (a .top) (omega arith) (a .at) (a .n) _ (c .before .before .there .ensures) (omega arith))
+    ∙ sym (gathered-short (now (a .s)) (λ k. omega (arith, d .shared-slice-known .given k)) (a .top) (omega arith)
+    (a .at) (a .n) _ (c .before .before .there .ensures) (omega arith))
 
 word-requires-2 : tie.Need-word-requires-2
 word-requires-2 c κs = search needs
@@ -34,7 +35,8 @@ returns-2 c =
     let d = c .before .before .before .before in
     let a = d .before .args in
     ap₂ (λ (l h : ℕ). record { lo = l; hi = h }) (c .before .word2 .ensures) (c .word3 .ensures)
-    ∙ sym (gathered-long (now (a .s)) (λ k. omega (arith, d .shared-slice-known .given k)) (a .top) (omega arith) (a .at) (a .n) _ (c .before .before .before .there .ensures) (omega arith))
+    ∙ sym (gathered-long (now (a .s)) (λ k. omega (arith, d .shared-slice-known .given k)) (a .top) (omega arith)
+    (a .at) (a .n) _ (c .before .before .before .there .ensures) (omega arith))
 
 pub gathered-spec : {M : Type 1} → statement M
 gathered-spec =

@@ -38,8 +38,12 @@ loop-less c = search needs
 loop-again : tie.Need-loop-again Inv-loop μ-loop
 loop-again c =
     let l = c .before .loop in
-    let a = c .before .before .args in
-    (search needs, simp length-set (l .inv .1), put-next (l .s) _ (a .at) (l .i) (a .n) (l .rest) (c .loop-test .taken) (l .inv .2))
+    let a = c .before .before .args in (
+      search needs,
+      simp length-set (l .inv .1),
+      put-next (l .s) _ (a .at) (l .i) (a .n) (l .rest) (c .loop-test .taken)
+          (l .inv .2),
+    )
 
 same-length : tie.Need-same-length Inv-loop μ-loop
 same-length c = c .before .loop .inv .1

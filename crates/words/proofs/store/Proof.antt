@@ -23,7 +23,8 @@ returns : tie.Need-returns
 returns c =
     let d = c .before .before .before .before .before .before in
     let a = d .before .args in
-    c .before .before .put .ensures ∙ sym (stored-short (now (a .s)) (a .b) (omega arith) (a .at) (a .n) _ (c .before .before .before .before .before .there .ensures) (omega arith))
+    c .before .before .put .ensures ∙ sym (stored-short (now (a .s)) (a .b) (omega arith) (a .at) (a .n) _
+    (c .before .before .before .before .before .there .ensures) (omega arith))
 
 put-requires-2 : tie.Need-put-requires-2
 put-requires-2 c κs = search needs
@@ -46,8 +47,10 @@ returns-2 c =
     let a = d .before .args in
     let m = c .before .before .before .before .before .before .before .before .before .there .result in
     c .before .before .put3 .ensures
-    ∙ ap (λ (l : List ℕ). sets l (a .at + 8) (bytes (m - 8) (a .b .hi))) (c .before .before .before .before .before .before .put2 .ensures)
-    ∙ sym (stored-long (now (a .s)) (a .b) (omega arith) (a .at) (a .n) _ (c .before .before .before .before .before .before .before .before .before .there .ensures) (omega arith))
+    ∙ ap (λ (l : List ℕ). sets l (a .at + 8) (bytes (m - 8) (a .b .hi)))
+    (c .before .before .before .before .before .before .put2 .ensures)
+    ∙ sym (stored-long (now (a .s)) (a .b) (omega arith) (a .at) (a .n) _
+    (c .before .before .before .before .before .before .before .before .before .there .ensures) (omega arith))
 
 pub store-spec : {M : Type 1} → statement M
 store-spec =

@@ -28,7 +28,8 @@ loop-holds c =
 turn : (c : tie.In-loop Inv-loop μ-loop) →
     let l = c .before .loop in
     let a = c .before .before .before .before .args in
-    (l .acc * 256 + getD (now (a .s)) (a .at + (l .i - 1)) 0 ≡ number (rest (now (a .s)) (a .at) (a .n) (a .top) (l .i - 1)))
+    (l .acc * 256 + getD (now (a .s)) (a .at + (l .i - 1)) 0
+    ≡ number (rest (now (a .s)) (a .at) (a .n) (a .top) (l .i - 1)))
     × (number (rest (now (a .s)) (a .at) (a .n) (a .top) (l .i - 1)) < 2 ^ 64)
 turn c =
     let d = c .before .before .before .before in
@@ -36,7 +37,8 @@ turn c =
     let l = c .before .loop in
     let g = c .before .before .before .shared-slice-known .given in
     let s = now (a .s) in (
-      rw (l .inv .1) (rest-next s (a .at) (a .n) (a .top) (d .pre .0) (d .pre .1) (l .i) (c .loop-test .taken) (l .inv .0)),
+      rw (l .inv .1) (rest-next s (a .at) (a .n) (a .top) (d .pre .0) (d .pre .1) (l .i) (c .loop-test .taken)
+          (l .inv .0)),
       rest-fits s (a .at) (a .n) (a .top) (d .pre .0) (d .pre .1) (l .i - 1) (omega arith) (λ k. omega (arith, g k)),
     )
 

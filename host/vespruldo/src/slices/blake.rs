@@ -1,14 +1,13 @@
 //! BLAKE2b with a key.
 
-use crate::refusal::{outcome, Refusal};
+use crate::refusal::{result_of, Refusal};
 
 /// What may be refused.
 const PROMISED: [Refusal; 3] = [Refusal::KeyLength, Refusal::TextLength, Refusal::RoomLength];
 
-/// Writes the BLAKE2b digest of `text`, at most 1,048,576 bytes, under `key`,
-/// at most 64 bytes, to `digest`. The digest has the length of its room, 1 to
-/// 64 bytes; a shorter one is not the beginning of a longer one. An empty key
-/// is no key. The room is unchanged if this is refused.
+/// Writes the BLAKE2b digest of `text` under `key` to `digest`. The digest has
+/// the length of its room; a shorter one is not the beginning of a longer one.
+/// An empty key is no key. The room is unchanged if this is refused.
 ///
 /// ```
 /// // RFC 7693, appendix A.
@@ -34,5 +33,5 @@ const PROMISED: [Refusal; 3] = [Refusal::KeyLength, Refusal::TextLength, Refusal
 /// than 64 bytes, [`Refusal::TextLength`] if the text is longer than 1,048,576
 /// bytes, [`Refusal::RoomLength`] if the room is not 1 to 64 bytes long.
 pub fn blake2b(key: &[u8], text: &[u8], digest: &mut [u8]) -> Result<(), Refusal> {
-    outcome(call!(vespruldo_blake2b: key, text; digest), &PROMISED)
+    result_of(call!(vespruldo_blake2b: key, text; digest), &PROMISED)
 }

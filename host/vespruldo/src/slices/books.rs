@@ -1,20 +1,19 @@
 //! The lookup in two key books.
 
 use crate::archive::Found;
-use crate::refusal::{outcome, Refusal};
+use crate::refusal::{result_of, Refusal};
 use crate::sizes::KEY_BYTES;
 
 /// What may be refused.
 const PROMISED: [Refusal; 2] = [Refusal::BookForm, Refusal::ClassMissing];
 
-/// Looks the key of `class` up in two key books, this term's and last term's.
-/// The 16 bytes handed back are that part of the book itself; where both books
-/// have an entry for the class, this term's book wins.
+/// Looks up the key of `class` in two key books, this term's and last term's.
+/// The 16 bytes handed back are that part of the book itself; if both books have
+/// an entry for the class, this term's book wins.
 ///
 /// A key book is a count of two bytes, then for each entry a class number of
-/// two bytes and a key of 16, all numbers little-endian. It is well formed when
-/// it has 2 + 18·count bytes and the class numbers strictly rise. Both books are
-/// judged whole before either is searched.
+/// two bytes and a key of 16, all numbers little-endian. Both books are judged
+/// whole before either is searched.
 ///
 /// ```
 /// use vespruldo::Refusal;
@@ -36,9 +35,9 @@ const PROMISED: [Refusal; 2] = [Refusal::BookForm, Refusal::ClassMissing];
 ///
 /// # Errors
 ///
-/// The first of these that applies: [`Refusal::BookForm`] if either book is
-/// badly formed, [`Refusal::ClassMissing`] if neither has an entry for the
-/// class.
+/// The first of these that applies: [`Refusal::BookForm`] if either book is not
+/// 2 + 18·count bytes long or its class numbers do not strictly rise,
+/// [`Refusal::ClassMissing`] if neither has an entry for the class.
 pub fn find_key<'a>(
     this_term: &'a [u8],
     last_term: &'a [u8],
@@ -61,14 +60,14 @@ pub(crate) fn find_part<'a>(
 ///
 /// # Panics
 ///
-/// On an answer that the archive does not promise, for any other 16 bytes are
-/// no key of the class.
+/// On an answer that the archive does not promise: any other 16 bytes are not
+/// the key of the class.
 fn part<'a>(
     found: &Found,
     this_term: &'a [u8],
     last_term: &'a [u8],
 ) -> Result<&'a [u8; KEY_BYTES], Refusal> {
-    outcome(found.number, &PROMISED)?;
+    result_of(found.number, &PROMISED)?;
     let Found { book, offset, .. } = found;
     let lent = match book {
         0 => Some(this_term),

@@ -1,6 +1,6 @@
 //! ChaCha20 as a key stream.
 
-use crate::refusal::{outcome, Refusal};
+use crate::refusal::{result_of, Refusal};
 
 /// What may be refused.
 const PROMISED: [Refusal; 4] = [
@@ -10,10 +10,9 @@ const PROMISED: [Refusal; 4] = [
     Refusal::StreamTooLong,
 ];
 
-/// Adds ChaCha20's key stream under `key`, 32 bytes, and `nonce`, 12 bytes, to
-/// `text`, at most 1,048,576 bytes, by exclusive or. The stream's blocks of 64
-/// bytes are counted from `start`. Done twice, this gives the text back. The
-/// text is unchanged if this is refused.
+/// Adds ChaCha20's key stream under `key` and `nonce` to `text` in place, by
+/// exclusive or. The stream's blocks of 64 bytes are counted from `start`. Done
+/// twice, this gives the text back. The text is unchanged if this is refused.
 ///
 /// ```
 /// // RFC 7539, section 2.4.2.
@@ -46,7 +45,7 @@ const PROMISED: [Refusal; 4] = [
 /// [`Refusal::TextLength`] if the text is longer than 1,048,576 bytes,
 /// [`Refusal::StreamTooLong`] if `start` plus the blocks needed exceeds 2^32.
 pub fn chacha20(key: &[u8], nonce: &[u8], start: u32, text: &mut [u8]) -> Result<(), Refusal> {
-    outcome(
+    result_of(
         call!(vespruldo_chacha20: key, nonce; start; text),
         &PROMISED,
     )

@@ -1,12 +1,12 @@
 //! GIFT-128 on one block.
 
-use crate::refusal::{outcome, Refusal};
+use crate::refusal::{result_of, Refusal};
 
 /// What may be refused.
 const PROMISED: [Refusal; 2] = [Refusal::KeyLength, Refusal::TextLength];
 
-/// Enciphers `block`, 16 bytes, under `key`, 16 bytes, by GIFT-128. The block
-/// is unchanged if this is refused.
+/// Enciphers `block` in place with GIFT-128 under `key`. The block is unchanged
+/// if this is refused.
 ///
 /// ```
 /// use vespruldo::Refusal;
@@ -19,13 +19,13 @@ const PROMISED: [Refusal; 2] = [Refusal::KeyLength, Refusal::TextLength];
 ///
 /// # Errors
 ///
-/// [`Refusal::KeyLength`] if the key is not 16 bytes long; otherwise
-/// [`Refusal::TextLength`] if the block is not.
+/// The first of these that applies: [`Refusal::KeyLength`] if the key is not 16
+/// bytes long, [`Refusal::TextLength`] if the block is not 16 bytes long.
 pub fn gift_encipher(key: &[u8], block: &mut [u8]) -> Result<(), Refusal> {
-    outcome(call!(vespruldo_gift_encipher: key; block), &PROMISED)
+    result_of(call!(vespruldo_gift_encipher: key; block), &PROMISED)
 }
 
-/// Deciphers `block`, 16 bytes, under `key`, 16 bytes, by GIFT-128: undoes
+/// Deciphers `block` in place with GIFT-128 under `key`: undoes
 /// [`gift_encipher`]. The block is unchanged if this is refused.
 ///
 /// ```
@@ -41,5 +41,5 @@ pub fn gift_encipher(key: &[u8], block: &mut [u8]) -> Result<(), Refusal> {
 ///
 /// As for [`gift_encipher`].
 pub fn gift_decipher(key: &[u8], block: &mut [u8]) -> Result<(), Refusal> {
-    outcome(call!(vespruldo_gift_decipher: key; block), &PROMISED)
+    result_of(call!(vespruldo_gift_decipher: key; block), &PROMISED)
 }

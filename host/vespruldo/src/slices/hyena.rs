@@ -1,6 +1,6 @@
 //! HyENA, sealing and opening.
 
-use crate::refusal::{outcome, Refusal};
+use crate::refusal::{result_of, Refusal};
 
 /// What sealing may refuse: 1 to 6. Opening refuses wrong tags too.
 const SEALING: usize = 6;
@@ -16,14 +16,13 @@ const SHORT: [Refusal; 6] = [
     Refusal::WrongTag,
 ];
 
-/// Seals `text`, at most 1,048,576 bytes, by HyENA under `key`, 16 bytes, and
-/// `nonce`, 12 bytes. The tag also covers the associated data `data`, at most
-/// 65,536 bytes, which itself is not sealed.
+/// Seals `text` with HyENA under `key` and `nonce`. The tag also covers the
+/// associated data `data`, which itself is not sealed.
 ///
 /// The ciphertext goes to the first bytes of `room`, as many as the text has;
-/// the rest of longer room keeps its bytes. The tag goes to `tag`, 16 bytes.
-/// Both are unchanged if this is refused. Two texts must never be sealed under
-/// the same key and nonce.
+/// the rest of longer room keeps its bytes. The tag goes to `tag`. Both are
+/// unchanged if this is refused. Never seal two texts under the same key and
+/// nonce.
 ///
 /// ```
 /// let (key, nonce) = ([1; 16], [2; 12]);
@@ -34,14 +33,14 @@ const SHORT: [Refusal; 6] = [
 /// vespruldo::slices::seal(&key, &nonce, b"class 7", text, &mut ciphertext, &mut tag)?;
 /// assert_ne!(ciphertext, *text);
 ///
-/// // Who opens it needs the same key, nonce and data.
+/// // Whoever opens it needs the same key, nonce and data.
 /// let mut opened = [0; 12];
 /// vespruldo::slices::open(&key, &nonce, b"class 7", &ciphertext, &tag, &mut opened)?;
 /// assert_eq!(opened, *text);
 /// # Ok::<(), vespruldo::Refusal>(())
 /// ```
 ///
-/// Room that is too short is not begun with:
+/// Nothing is written to room that is too short:
 ///
 /// ```
 /// use vespruldo::Refusal;
@@ -59,7 +58,7 @@ const SHORT: [Refusal; 6] = [
 /// bytes long, [`Refusal::NonceLength`] if the nonce is not 12 bytes long,
 /// [`Refusal::DataLength`] if the associated data is longer than 65,536 bytes,
 /// [`Refusal::TextLength`] if the text is longer than 1,048,576 bytes,
-/// [`Refusal::TagLength`] if the room for the tag is not 16 bytes long,
+/// [`Refusal::TagLength`] if `tag` is not 16 bytes long,
 /// [`Refusal::RoomLength`] if the room is shorter than the text.
 pub fn seal(
     key: &[u8],
@@ -69,7 +68,7 @@ pub fn seal(
     room: &mut [u8],
     tag: &mut [u8],
 ) -> Result<(), Refusal> {
-    outcome(
+    result_of(
         call!(vespruldo_seal: key, nonce, data, text; room, tag),
         &Refusal::ALL[..SEALING],
     )
@@ -107,12 +106,7 @@ pub fn seal(
 ///
 /// # Errors
 ///
-/// The first of these that applies: [`Refusal::KeyLength`] if the key is not 16
-/// bytes long, [`Refusal::NonceLength`] if the nonce is not 12 bytes long,
-/// [`Refusal::DataLength`] if the associated data is longer than 65,536 bytes,
-/// [`Refusal::TextLength`] if the ciphertext is longer than 1,048,576 bytes,
-/// [`Refusal::TagLength`] if the tag is not 16 bytes long,
-/// [`Refusal::RoomLength`] if the room is shorter than the ciphertext,
+/// As for [`seal`], with the ciphertext in place of the text, and last
 /// [`Refusal::WrongTag`] if the tag is not the recomputed one.
 pub fn open(
     key: &[u8],
@@ -122,13 +116,14 @@ pub fn open(
     tag: &[u8],
     room: &mut [u8],
 ) -> Result<(), Refusal> {
-    outcome(
+    result_of(
         call!(vespruldo_open: key, nonce, data, ciphertext, tag; room),
         &Refusal::ALL[..OPENING],
     )
 }
 
-/// [`seal`] without associated data: the same bytes as with the empty one.
+/// Seals without associated data: [`seal`] with `data` empty. Short is the form
+/// of the call, not the text.
 ///
 /// ```
 /// let (key, nonce, text) = ([1; 16], [2; 12], b"Anna, desk 4");
@@ -151,14 +146,14 @@ pub fn seal_short(
     room: &mut [u8],
     tag: &mut [u8],
 ) -> Result<(), Refusal> {
-    outcome(
+    result_of(
         call!(vespruldo_seal_short: key, nonce, text; room, tag),
         &SHORT[..SEALING - 1],
     )
 }
 
-/// [`open`] without associated data: opens what [`seal_short`] sealed, or
-/// [`seal`] with the empty data.
+/// Opens what was sealed without associated data, by [`seal_short`] or by
+/// [`seal`] with `data` empty.
 ///
 /// ```
 /// use vespruldo::Refusal;
@@ -188,7 +183,7 @@ pub fn open_short(
     tag: &[u8],
     room: &mut [u8],
 ) -> Result<(), Refusal> {
-    outcome(
+    result_of(
         call!(vespruldo_open_short: key, nonce, ciphertext, tag; room),
         &SHORT,
     )

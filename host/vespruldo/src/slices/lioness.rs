@@ -1,6 +1,6 @@
 //! LIONESS on a wide block.
 
-use crate::refusal::{outcome, Refusal};
+use crate::refusal::{result_of, Refusal};
 
 /// What may be refused.
 const PROMISED: [Refusal; 3] = [
@@ -9,9 +9,8 @@ const PROMISED: [Refusal; 3] = [
     Refusal::TextLength,
 ];
 
-/// Enciphers `block`, 33 to 1,048,608 bytes, where it lies, under `key`, 128
-/// bytes, and `iv`, 48 bytes, by LIONESS. The block is unchanged if this is
-/// refused.
+/// Enciphers `block` in place with LIONESS under `key` and `iv`. The block is
+/// unchanged if this is refused.
 ///
 /// ```
 /// let plain = *b"forty bytes: a wide block is one of them";
@@ -30,11 +29,11 @@ const PROMISED: [Refusal; 3] = [
 /// 128 bytes long, [`Refusal::NonceLength`] if the iv is not 48 bytes long,
 /// [`Refusal::TextLength`] if the block is not 33 to 1,048,608 bytes long.
 pub fn lioness_encipher(key: &[u8], iv: &[u8], block: &mut [u8]) -> Result<(), Refusal> {
-    outcome(call!(vespruldo_lioness_encipher: key, iv; block), &PROMISED)
+    result_of(call!(vespruldo_lioness_encipher: key, iv; block), &PROMISED)
 }
 
-/// Deciphers `block` where it lies by LIONESS: undoes [`lioness_encipher`]
-/// under the same key and iv. The block is unchanged if this is refused.
+/// Deciphers `block` in place with LIONESS: undoes [`lioness_encipher`] under the
+/// same key and iv. The block is unchanged if this is refused.
 ///
 /// ```
 /// use vespruldo::Refusal;
@@ -49,5 +48,5 @@ pub fn lioness_encipher(key: &[u8], iv: &[u8], block: &mut [u8]) -> Result<(), R
 ///
 /// As for [`lioness_encipher`].
 pub fn lioness_decipher(key: &[u8], iv: &[u8], block: &mut [u8]) -> Result<(), Refusal> {
-    outcome(call!(vespruldo_lioness_decipher: key, iv; block), &PROMISED)
+    result_of(call!(vespruldo_lioness_decipher: key, iv; block), &PROMISED)
 }

@@ -1,8 +1,7 @@
 //! The archive's functions over slices of any length.
 //!
-//! Every refusal of document 01 can come from these, also those that a type of
-//! the crate's root rules out, and nothing is allocated: they write to room
-//! that is lent.
+//! They refuse all that the archive refuses, including what the types of the
+//! crate's root rule out, and allocate nothing: they write to room that is lent.
 
 /// Calls a function of the archive with the slices that it reads, the number
 /// that some take, and the slices that it writes.

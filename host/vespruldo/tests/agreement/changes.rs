@@ -12,11 +12,16 @@ const REPORTED: &str = r#"
 header  | vespruldo_seal:             | const uint8_t *data, size_t data_len, =>
 archive | vespruldo_chacha20:         | start: u32, =>
 archive | vespruldo_seal:             | data: *const u8,\n        data_len: usize, =>
-rattle  | vespruldo_seal:             | ad: &[u8], =>
+rattle  | vespruldo_seal:             | data: &[u8], =>
 rattle  | vespruldo_drawer_start:     | (reader: u32, => (reader: u32, more: u32,
 header  | vespruldo_lioness_encipher: | const uint8_t *iv => uint8_t *iv
 archive | vespruldo_blake2b:          | digest: *mut => digest: *const
 rattle  | vespruldo_gift_encipher:    | key: &[u8], block => key: &mut [u8], block
+header  | vespruldo_chacha20:         | uint32_t start => uint32_t counter
+archive | vespruldo_gift_encipher:    | block: *mut u8,\n        block_len => text: *mut u8,\n        text_len
+rattle  | vespruldo_lioness_encipher: | iv: &[u8], block => nonce: &[u8], block
+header  | vespruldo_key_find:         | class_number => class_numbers
+rattle  | vespruldo_key_find:         | class: u16 => class_number: u16
 header  | vespruldo_key_find:         | uint16_t class => uint32_t class
 archive | vespruldo_drawer_iv:        | -> Drawn<48> => -> Drawn<12>
 rattle  | vespruldo_drawer_iv:        | -> DrawnIv => -> Drawn
@@ -31,7 +36,6 @@ header  | DrawnIv:                    | bytes[VESPRULDO_LIONESS_IV => bytes[VESP
 header  | BookForm:                   | VESPRULDO_BOOK_FORM 10 => VESPRULDO_BOOK_FORM 12
 header  | DrawerSpent:                | /* drawer spent => /* drawer empty
 header  | ClassLost:                  | VESPRULDO_CLASS_MISSING 11 => VESPRULDO_CLASS_LOST 11
-refusal | Other:                      | ClassMissing = 11, => ClassMissing = 11, Other = 12,
 header  | TEXT_MAX:                   | TEXT_MAX 1048576 => TEXT_MAX 1048577
 sizes   | LIONESS_IV_BYTES:           | LIONESS_IV_BYTES: usize = 48; => LIONESS_IV_BYTES: usize = 12;
 sizes   | TAG_BYTES:                  | pub const TAG_BYTES: usize = 16; =>
@@ -70,7 +74,6 @@ impl Sources {
         match name {
             "header" => &mut self.header,
             "archive" => &mut self.archive,
-            "refusal" => &mut self.refusal,
             "sizes" => &mut self.sizes,
             "rattle" => &mut self.rattle,
             "symbols" => &mut self.symbols,

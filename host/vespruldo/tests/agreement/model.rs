@@ -18,23 +18,23 @@ pub enum Kind {
     Struct(String),
 }
 
+/// Names and kinds, in their order.
+pub type Named = Vec<(String, Kind)>;
+
 #[derive(Clone, Debug, PartialEq, Eq)]
 pub struct Function {
-    pub parameters: Vec<Kind>,
+    pub parameters: Named,
     pub result: Kind,
 }
 
 pub type Functions = BTreeMap<String, Function>;
 
-/// Names and kinds, in their order.
-pub type Named = Vec<(String, Kind)>;
-
 pub type Structs = BTreeMap<String, Named>;
 
 /// Puts the buffers of C or Rust together. Each is a pointer and then a length
 /// named after it; no length stands alone.
-pub fn with_buffers(parameters: Named) -> Vec<Kind> {
-    let mut kinds = Vec::new();
+pub fn with_buffers(parameters: Named) -> Named {
+    let mut together = Named::new();
     let mut rest = parameters.into_iter();
     while let Some((name, kind)) = rest.next() {
         match kind {
@@ -45,9 +45,21 @@ pub fn with_buffers(parameters: Named) -> Vec<Kind> {
             Kind::Size => panic!("{name} is the length of no buffer"),
             _ => {}
         }
-        kinds.push(kind);
+        together.push((name, kind));
     }
-    kinds
+    together
+}
+
+/// Gives the parameter `old` of a function the name `new`, if it is there.
+pub fn rename(functions: &mut Functions, [function, old, new]: [&str; 3]) {
+    let Some(found) = functions.get_mut(function) else {
+        return;
+    };
+    for (name, _) in &mut found.parameters {
+        if name == old {
+            *name = new.to_string();
+        }
+    }
 }
 
 /// Adds what has not been declared before.

@@ -1,6 +1,6 @@
 //! The functions that the Rattle source exports.
 
-use crate::model::{declare, Function, Functions, Kind};
+use crate::model::{declare, Function, Functions, Kind, Named};
 use crate::tokens::Tokens;
 
 /// The functions of a file that has nothing but them and what they use.
@@ -27,12 +27,12 @@ pub fn functions(text: &str) -> Functions {
     functions
 }
 
-fn parameters(mut tokens: Tokens) -> Vec<Kind> {
-    let mut parameters = Vec::new();
+fn parameters(mut tokens: Tokens) -> Named {
+    let mut parameters = Named::new();
     while !tokens.at_end() {
-        tokens.name();
+        let name = tokens.name();
         tokens.expect(":");
-        parameters.push(kind(&mut tokens));
+        parameters.push((name, kind(&mut tokens)));
         assert!(tokens.take(",") || tokens.at_end(), "{}", tokens.here());
     }
     parameters

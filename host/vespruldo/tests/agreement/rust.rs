@@ -122,22 +122,6 @@ fn kind(tokens: &mut Tokens) -> Kind {
     }
 }
 
-/// The refusals and their numbers, from the file that has them among others.
-pub fn refusals(text: &str) -> BTreeMap<String, u64> {
-    let mut tokens = Tokens::of(text);
-    tokens.skip_through("enum");
-    tokens.expect("Refusal");
-    let mut variants = tokens.group();
-    let mut refusals = BTreeMap::new();
-    while !variants.at_end() {
-        let name = variants.name();
-        variants.expect("=");
-        declare(&mut refusals, name, variants.number());
-        variants.expect(",");
-    }
-    refusals
-}
-
 /// The lengths, from the file that has nothing else.
 pub fn sizes(text: &str) -> BTreeMap<String, u64> {
     let mut tokens = Tokens::of(text);
