@@ -136,8 +136,8 @@ void plain_gift_prepare(const uint8_t key[16], struct plain_gift_key *prepared)
         constant = (constant << 1 & 0x3f) | low_bit;
         uint32_t u = (uint32_t)k.high;
         uint32_t v = (uint32_t)k.low;
-        prepared->added[round].low = spread(u, v) ^ spread_constant(constant);
-        prepared->added[round].high =
+        prepared->round_keys[round].low = spread(u, v) ^ spread_constant(constant);
+        prepared->round_keys[round].high =
             spread(u >> 16, v >> 16) ^ (uint64_t)1 << 63;
         k = step_key(k);
     }
@@ -151,8 +151,8 @@ void plain_gift_encipher_under(const struct plain_gift_key *prepared,
         state.low = substitute(sbox, state.low);
         state.high = substitute(sbox, state.high);
         state = move_bits(state);
-        state.low ^= prepared->added[round].low;
-        state.high ^= prepared->added[round].high;
+        state.low ^= prepared->round_keys[round].low;
+        state.high ^= prepared->round_keys[round].high;
     }
     store(block, state.low);
     store(block + 8, state.high);
@@ -171,8 +171,8 @@ void plain_gift_decipher(const uint8_t key[16], uint8_t block[16])
     plain_gift_prepare(key, &prepared);
     struct halves state = {load(block), load(block + 8)};
     for (int round = PLAIN_GIFT_ROUNDS - 1; round >= 0; round--) {
-        state.low ^= prepared.added[round].low;
-        state.high ^= prepared.added[round].high;
+        state.low ^= prepared.round_keys[round].low;
+        state.high ^= prepared.round_keys[round].high;
         state = move_bits_back(state);
         state.low = substitute(sbox_back, state.low);
         state.high = substitute(sbox_back, state.high);

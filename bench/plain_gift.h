@@ -15,7 +15,7 @@ struct halves {
 
 /* What the rounds under one key add to the state. */
 struct plain_gift_key {
-    struct halves added[PLAIN_GIFT_ROUNDS];
+    struct halves round_keys[PLAIN_GIFT_ROUNDS];
 };
 
 /* Works that out for the 16 bytes at key. */
@@ -25,7 +25,7 @@ void plain_gift_prepare(const uint8_t key[16], struct plain_gift_key *prepared);
 void plain_gift_encipher_under(const struct plain_gift_key *prepared,
                                uint8_t block[16]);
 
-/* The same under the 16 bytes at key, whose additions are worked out anew in
+/* The same under the 16 bytes at key, whose round keys are worked out anew in
    each call. */
 void plain_gift_encipher(const uint8_t key[16], uint8_t block[16]);
 

@@ -14,7 +14,7 @@
 
    Numbers. The answer is VESPRULDO_DONE or the number of the refusal; if
    several apply, the smallest. A refusal changes no buffer, with one exception:
-   WRONG_TAG, for which see vespruldo_open.
+   WRONG_TAG (see vespruldo_open). Comments leave out the prefix VESPRULDO_.
 
    What each function answers and what its buffers then hold is proved for all
    inputs. docs/READING.md says what is believed and what is only tested,
@@ -157,7 +157,7 @@ typedef struct vespruldo_drawn_iv {
 vespruldo_drawer vespruldo_drawer_start(uint32_t reader, uint64_t count);
 
 /* Draws a nonce: the reader number in 4 bytes, then the count in 8, both
-   little-endian. In `next` the count is greater by one.
+   little-endian. In `next` the count is one greater.
 
    Refusal: DRAWER_SPENT (the count is 2^64 - 1). `next` is then the same drawer
    and the bytes are all 0, which is no nonce: look at `number` first. */
@@ -172,7 +172,7 @@ vespruldo_drawn_iv vespruldo_drawer_iv(vespruldo_drawer drawer);
 
 /* ---- Key books ---- */
 
-/* Where the 16 bytes of a key begin: at `offset` in this book. */
+/* Where the 16 bytes of a key begin: at `offset` in the book that is named. */
 typedef struct vespruldo_found {
     uint32_t number; /* DONE, BOOK_FORM or CLASS_MISSING */
     uint32_t book;   /* VESPRULDO_THIS_TERM or VESPRULDO_LAST_TERM */

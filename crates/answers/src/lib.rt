@@ -2,7 +2,7 @@
 ghost use mathlib.Core.Bool.{cond};
 ghost use mathlib.Core.Path.{_≡_};
 
-// The refusal `number` where it applies, and what follows otherwise; the last row is followed by 0.
+// The refusal `number` if it applies, and otherwise what follows; the last row is followed by 0.
 pub fn row(applies: bool, number: u32, follows: u32) -> u32
     ensures { λ r. ⌜ r ≡ cond applies number follows ⌝ }
 {

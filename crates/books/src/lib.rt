@@ -17,7 +17,7 @@ pub struct Found {
     pub offset: usize,
 }
 
-// The number that `find` answers: the refusal, or 0 where there is a key for the class.
+// The number that `find` answers: the refusal, or 0 if there is a key for the class.
 pub fn number(this_term: &[u8], last_term: &[u8], class: u16) -> u32
     ensures { λ r. ⌜ r ≡ finding (now («this_term» .entry)) (now («last_term» .entry)) class .number ⌝ }
 {
@@ -25,7 +25,7 @@ pub fn number(this_term: &[u8], last_term: &[u8], class: u16) -> u32
     f.number
 }
 
-// The key's 16 bytes where they lie in the book that `find` names, themselves and no copy; where it is refused, an
+// The key's 16 bytes where they lie in the book that `find` names, themselves and no copy; if it is refused, an
 // empty part at the start of this term's book.
 pub fn part<'a>(this_term: &'a [u8], last_term: &'a [u8], class: u16) -> &'a [u8]
     ensures { λ r. ⌜ HandedBack r («this_term» .entry) («last_term» .entry) class ⌝ }
@@ -49,7 +49,7 @@ fn length_of(number: u32) -> usize
     if number == 0 { 16 } else { 0 }
 }
 
-// Where the key of the class lies: the book and the offset in it; where it is refused, book 0 and offset 0. Both books
+// Where the key of the class lies: the book and the offset in it; if it is refused, book 0 and offset 0. Both books
 // are judged before either is searched.
 pub fn find(this_term: &[u8], last_term: &[u8], class: u16) -> Found
     ensures { λ r. ⌜ Finding (r .number) (now («this_term» .entry)) (now («last_term» .entry)) class (r .book)

@@ -1,4 +1,4 @@
--- The definitions compute: words that are numbers or none.
+-- The definitions computed on words that are numbers or not.
 use mathlib.Core.Path.{_≡_, refl}
 use mathlib.Core.Bool.{true}
 use mathlib.Core.List.{[], _∷_}

@@ -10,7 +10,7 @@ pub struct Decimal {
     pub value: u64,
 }
 
-// Whether a word is one decimal digit or more and below 2^64, and its value; 0 where it is not.
+// Whether a word is a number, one decimal digit or more and below 2^64, and its value, which is 0 if it is not.
 pub fn number(word: &[u8]) -> Decimal
     ensures { λ r. ⌜ r ≡ reading (now (word .entry)) ⌝ }
 {

@@ -26,7 +26,7 @@ pub fn keep(d: Drawer) -> File
 }
 
 // Whether s is, to the byte, what `keep` writes for its drawer, and that drawer; reader 0 with nothing left to draw
-// where it is not.
+// if it is not.
 pub fn recall(s: &[u8]) -> Recalled
     ensures { λ r. ⌜ r ≡ recalling (now (s .entry)) ⌝ }
 {

@@ -59,7 +59,7 @@ pub fn encipher_block(a: RoundKeys, x: Block) -> Block
     forty_rounds(false, a, x)
 }
 
-// The block of which forty rounds make x: the same rounds undone.
+// The block from which those rounds make x: the rounds undone.
 pub fn decipher_block(a: RoundKeys, x: Block) -> Block
     ensures { λ r. ⌜ r ≡ halves (deciphers a (value x)) ⌝ }
 {

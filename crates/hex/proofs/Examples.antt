@@ -1,4 +1,4 @@
--- The definitions compute: texts in hex.
+-- The definitions computed on small texts in hex.
 use mathlib.Core.Path.{_≡_, refl}
 use mathlib.Core.Bool.{true, false}
 use mathlib.Core.List.{List, [], _∷_}

@@ -30,8 +30,8 @@ pub fn begin() -> Hex
     }
 }
 
-// Reads on from h, with `text`: how far the whole has been read then, and in the room the bytes that are complete.
-// Those for which the room is too short are not written.
+// Takes the next piece of a text in, after what h says was read: answers how far it has been read then, and writes the
+// bytes that are complete to room. Those for which the room is too short are not written.
 pub fn take_in(h: Hex, text: &[u8], room: &mut [u8]) -> Hex
     ensures { λ r. ⌜ TakingIn r h (now (text .entry)) (now (room .entry)) (now (room .exit)) ⌝ }
 {
@@ -44,7 +44,7 @@ pub fn take_in(h: Hex, text: &[u8], room: &mut [u8]) -> Hex
     s
 }
 
-// Writes the digits of s to room. Answers 0, or 6 where they do not fit.
+// Writes the digits of s to room. Answers 0, or 6 if they do not fit.
 pub fn spell(s: &[u8], room: &mut [u8]) -> u32
     ensures { λ r. ⌜ Spelling r (now (s .entry)) (now (room .entry)) (now (room .exit)) ⌝ }
 {
@@ -59,8 +59,8 @@ pub fn spell(s: &[u8], room: &mut [u8]) -> u32
     0
 }
 
-// Writes s to room as a word: its digits, or `-` where it has no bytes. Answers how long the word is, or 0 where it
-// does not fit.
+// Writes s to room as a word: its digits, or `-` if it has no bytes. Answers how long the word is, or 0 if it does not
+// fit.
 pub fn show(s: &[u8], room: &mut [u8]) -> usize
     ensures { λ r. ⌜ Showing r (now (s .entry)) (now (room .entry)) (now (room .exit)) ⌝ }
 {

@@ -1,4 +1,4 @@
--- What the demands on HyENA speak of.
+-- What demand 3 asks of a block function, and of two ciphertexts.
 use mathlib.Core.Path.{_≡_}
 use mathlib.Core.List.{List}
 use Prim.Native.Nat.{ℕ, _^_, _<_}

@@ -1,4 +1,5 @@
--- A card, as a shelf of K11 holds it: "a 12-byte nonce, a two-byte little-endian length, the ciphertext and its tag".
+-- A sealed card, laid out as on a shelf of K11: "a 12-byte nonce, a two-byte little-endian length, the ciphertext and
+-- its tag".
 use Prim.Native.Nat.{ℕ, _+_}
 use mathlib.Core.Path.{_≡_}
 use mathlib.Core.Bool.{false, not}

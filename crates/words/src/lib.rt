@@ -118,7 +118,7 @@ pub fn same(s: &[u8], t: &[u8]) -> bool
     true
 }
 
-// The first place from `from` on, before `to`, where s has b; where there is none, the end of what was searched.
+// The first place from `from` on, before `to`, where s has b; if there is none, the end of what was searched.
 pub fn find(s: &[u8], from: usize, to: usize, b: u8) -> usize
     ensures { λ r. ⌜ r ≡ finding (now (s .entry)) from to b ⌝ }
 {

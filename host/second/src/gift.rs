@@ -108,7 +108,7 @@ fn move_bits_back(state: &Bits) -> Bits {
 }
 
 /// Steps 3 and 4 of one round: what they add to the state, as a number.
-fn added(round: &Round) -> u128 {
+fn round_key(round: &Round) -> u128 {
     let mut bits = Bits::by_rule(|_| false);
     add_key(&mut bits, &round.key);
     add_constant(&mut bits, &round.constant);
@@ -116,8 +116,8 @@ fn added(round: &Round) -> u128 {
 }
 
 /// What all rounds add under `key`, the first one first.
-fn additions(key: &[u8; 16]) -> Vec<u128> {
-    rounds(key).iter().map(added).collect()
+fn round_keys(key: &[u8; 16]) -> Vec<u128> {
+    rounds(key).iter().map(round_key).collect()
 }
 
 fn number(bits: &Bits) -> u128 {
@@ -160,22 +160,22 @@ static SBOX_BACK: LazyLock<Table> = LazyLock::new(|| {
     std::array::from_fn(|n| std::array::from_fn(|y| u128::from(sbox_back(y as u8)) << (4 * n)))
 });
 
-fn encipher_block(additions: &[u128], block: &[u8; 16]) -> [u8; 16] {
+fn encipher_block(round_keys: &[u128], block: &[u8; 16]) -> [u8; 16] {
     let forward = &*FORWARD;
     let mut state = u128::from_le_bytes(*block);
-    for added in additions {
-        state = by_table(forward, state) ^ added;
+    for round_key in round_keys {
+        state = by_table(forward, state) ^ round_key;
     }
     state.to_le_bytes()
 }
 
 /// "Deciphering undoes the rounds": the last round first, and in each round
 /// the last step first. Adding by exclusive or undoes itself.
-fn decipher_block(additions: &[u128], block: &[u8; 16]) -> [u8; 16] {
+fn decipher_block(round_keys: &[u128], block: &[u8; 16]) -> [u8; 16] {
     let (moved_back, sbox_back) = (&*MOVED_BACK, &*SBOX_BACK);
     let mut state = u128::from_le_bytes(*block);
-    for added in additions.iter().rev() {
-        state = by_table(sbox_back, by_table(moved_back, state ^ added));
+    for round_key in round_keys.iter().rev() {
+        state = by_table(sbox_back, by_table(moved_back, state ^ round_key));
     }
     state.to_le_bytes()
 }
@@ -190,15 +190,15 @@ fn on_block(key: &[u8], block: &mut [u8], work: fn(&[u128], &[u8; 16]) -> [u8; 1
     let Ok(block) = <&mut [u8; 16]>::try_from(block) else {
         return 4;
     };
-    *block = work(&additions(key), block);
+    *block = work(&round_keys(key), block);
     0
 }
 
 /// Enciphering under `key` as a function of one block; the rounds are worked
 /// out once, however many blocks follow.
 pub fn under(key: &[u8; 16]) -> impl Fn(&[u8; 16]) -> [u8; 16] {
-    let additions = additions(key);
-    move |block| encipher_block(&additions, block)
+    let round_keys = round_keys(key);
+    move |block| encipher_block(&round_keys, block)
 }
 
 /// Enciphers `block` under `key` where it lies and answers the document's
@@ -300,8 +300,8 @@ mod tests {
         for _ in 0..2000 {
             let [key, block] = [random.sixteen(), random.sixteen()];
             let enciphered = one_step_after_another(&key, &block);
-            assert_eq!(encipher_block(&additions(&key), &block), enciphered);
-            assert_eq!(decipher_block(&additions(&key), &enciphered), block);
+            assert_eq!(encipher_block(&round_keys(&key), &block), enciphered);
+            assert_eq!(decipher_block(&round_keys(&key), &enciphered), block);
         }
     }
 

@@ -92,19 +92,19 @@ fn start_block(nonce: &[u8], b1: bool, b0: bool) -> u128 {
 
 /// Y at the start. "b0 is 1 when the associated data is empty, b1 when text is
 /// empty too. In opening, ciphertext length stands for text length."
-fn init(e: &impl Fn(u128) -> u128, nonce: &[u8], ad: &[u8], text: &[u8]) -> u128 {
-    let b0 = ad.is_empty();
-    let b1 = ad.is_empty() && text.is_empty();
+fn init(e: &impl Fn(u128) -> u128, nonce: &[u8], data: &[u8], text: &[u8]) -> u128 {
+    let b0 = data.is_empty();
+    let b1 = data.is_empty() && text.is_empty();
     e(start_block(nonce, b1, b0))
 }
 
 /// The associated data: X and Δ after it. "Each is fed as in sealing, in
 /// opening too. Outputs here are dropped."
-fn proc_ad(e: &impl Fn(u128) -> u128, mut y: u128, ad: &[&[u8]]) -> (u128, u64) {
+fn proc_ad(e: &impl Fn(u128) -> u128, mut y: u128, data: &[&[u8]]) -> (u128, u64) {
     let feed = |y, delta, block: &[u8]| hyfb(Way::Sealing, y, delta, block).0;
     // "Δ is YR doubled once."
     let mut delta = doubled(right(y));
-    let Some((last, others)) = ad.split_last() else {
+    let Some((last, others)) = data.split_last() else {
         // "If empty, double twice more and feed the block with value 1."
         delta = doubled_times(2, delta);
         return (feed(y, delta, &1_u128.to_le_bytes()), delta);
@@ -158,11 +158,11 @@ fn hyena(
     e: &impl Fn(u128) -> u128,
     way: Way,
     nonce: &[u8],
-    ad: &[u8],
+    data: &[u8],
     text: &[u8],
 ) -> (Vec<u8>, [u8; 16]) {
-    let y = init(e, nonce, ad, text);
-    let (x, delta) = proc_ad(e, y, &cut(ad));
+    let y = init(e, nonce, data, text);
+    let (x, delta) = proc_ad(e, y, &cut(data));
     let (x, output) = proc_txt(e, way, x, delta, &cut(text));
     (output, tag_gen(e, x).to_le_bytes())
 }
@@ -171,11 +171,11 @@ fn hyena(
 /// length, 3 associated data too long, 4 text too long, 5 "tag, or room for it,
 /// not 16 bytes", 6 room too short, 0 none of these. "Where several apply, the
 /// smallest number is given."
-fn refusal(nonce: &[u8], ad: &[u8], text: &[u8], tag: &[u8], room: &[u8]) -> u32 {
+fn refusal(nonce: &[u8], data: &[u8], text: &[u8], tag: &[u8], room: &[u8]) -> u32 {
     if nonce.len() != 12 {
         return 2;
     }
-    if ad.len() > LONGEST_AD {
+    if data.len() > LONGEST_AD {
         return 3;
     }
     if text.len() > LONGEST_TEXT {
@@ -195,14 +195,14 @@ fn refusal(nonce: &[u8], ad: &[u8], text: &[u8], tag: &[u8], room: &[u8]) -> u32
 fn seal_over(
     e: &impl Fn(u128) -> u128,
     nonce: &[u8],
-    ad: &[u8],
+    data: &[u8],
     text: &[u8],
     room: &mut [u8],
     tag: &mut [u8],
 ) -> u32 {
-    let number = refusal(nonce, ad, text, tag, room);
+    let number = refusal(nonce, data, text, tag, room);
     if number == 0 {
-        let (ciphertext, computed) = hyena(e, Way::Sealing, nonce, ad, text);
+        let (ciphertext, computed) = hyena(e, Way::Sealing, nonce, data, text);
         room[..text.len()].copy_from_slice(&ciphertext);
         tag.copy_from_slice(&computed);
     }
@@ -214,16 +214,16 @@ fn seal_over(
 fn open_over(
     e: &impl Fn(u128) -> u128,
     nonce: &[u8],
-    ad: &[u8],
+    data: &[u8],
     ciphertext: &[u8],
     tag: &[u8],
     room: &mut [u8],
 ) -> u32 {
-    let number = refusal(nonce, ad, ciphertext, tag, room);
+    let number = refusal(nonce, data, ciphertext, tag, room);
     if number != 0 {
         return number;
     }
-    let (text, recomputed) = hyena(e, Way::Opening, nonce, ad, ciphertext);
+    let (text, recomputed) = hyena(e, Way::Opening, nonce, data, ciphertext);
     let front = &mut room[..ciphertext.len()];
     if tag != recomputed {
         front.fill(0);
@@ -240,7 +240,7 @@ fn gift_under(key: &[u8]) -> Option<impl Fn(u128) -> u128> {
     Some(move |x: u128| u128::from_le_bytes(encipher(&x.to_le_bytes())))
 }
 
-/// Seals `text` with the associated data `ad`: writes the ciphertext to the
+/// Seals `text` with the associated data `data`: writes the ciphertext to the
 /// front of `room`, as many bytes as the text has, and the tag to `tag`.
 /// Answers document 01's number: 0 done, 1 key has a wrong length, 2 nonce has
 /// a wrong length, 3 associated data too long, 4 text too long, 5 room for the
@@ -249,18 +249,18 @@ fn gift_under(key: &[u8]) -> Option<impl Fn(u128) -> u128> {
 pub fn seal(
     key: &[u8],
     nonce: &[u8],
-    ad: &[u8],
+    data: &[u8],
     text: &[u8],
     room: &mut [u8],
     tag: &mut [u8],
 ) -> u32 {
     match gift_under(key) {
-        Some(e) => seal_over(&e, nonce, ad, text, room, tag),
+        Some(e) => seal_over(&e, nonce, data, text, room, tag),
         None => 1,
     }
 }
 
-/// Opens `ciphertext` with the associated data `ad`: writes the text to the
+/// Opens `ciphertext` with the associated data `data`: writes the text to the
 /// front of `room`, as many bytes as the ciphertext has. The numbers are those
 /// of [`seal`] with the ciphertext in place of the text, and 7: "tag is not the
 /// recomputed one". With 7 the front of the room is zeros; nothing changes with
@@ -268,13 +268,13 @@ pub fn seal(
 pub fn open(
     key: &[u8],
     nonce: &[u8],
-    ad: &[u8],
+    data: &[u8],
     ciphertext: &[u8],
     tag: &[u8],
     room: &mut [u8],
 ) -> u32 {
     match gift_under(key) {
-        Some(e) => open_over(&e, nonce, ad, ciphertext, tag, room),
+        Some(e) => open_over(&e, nonce, data, ciphertext, tag, room),
         None => 1,
     }
 }
@@ -436,11 +436,11 @@ mod tests {
     #[test]
     fn toy_table_both_ways() {
         for (ad_len, text_len, ciphertext, tag) in TOY_TABLE {
-            let (ad, text) = (toy_ad(ad_len), toy_text(text_len));
+            let (data, text) = (toy_ad(ad_len), toy_text(text_len));
             let mut room = vec![0xa5; text_len];
             let mut computed = [0x5a; 16];
             let nonce = toy_nonce();
-            let sealed = seal_over(&toy, &nonce, &ad, &text, &mut room, &mut computed);
+            let sealed = seal_over(&toy, &nonce, &data, &text, &mut room, &mut computed);
             assert_eq!(sealed, 0);
             let case = format!("{ad_len}, {text_len}");
             assert_eq!(
@@ -450,14 +450,14 @@ mod tests {
             );
             assert_eq!(number(&computed), tag, "{case}");
             let mut opened = vec![0xa5; text_len];
-            let number = open_over(&toy, &nonce, &ad, &room, &computed, &mut opened);
+            let number = open_over(&toy, &nonce, &data, &room, &computed, &mut opened);
             assert_eq!((number, opened), (0, text), "{case}");
         }
     }
 
     /// X before the tag, sealing from the state `y` on.
-    fn last_x(y: u128, ad: &[&[u8]], text: &[&[u8]]) -> u128 {
-        let (x, delta) = proc_ad(&toy, y, ad);
+    fn last_x(y: u128, data: &[&[u8]], text: &[&[u8]]) -> u128 {
+        let (x, delta) = proc_ad(&toy, y, data);
         proc_txt(&toy, Way::Sealing, x, delta, text).0
     }
 
@@ -466,9 +466,9 @@ mod tests {
     #[test]
     fn slip_halves_not_swapped() {
         for (ad_len, text_len, _, tag) in TOY_TABLE {
-            let (ad, text) = (toy_ad(ad_len), toy_text(text_len));
-            let y = init(&toy, &toy_nonce(), &ad, &text);
-            let x = last_x(y, &cut(&ad), &cut(&text));
+            let (data, text) = (toy_ad(ad_len), toy_text(text_len));
+            let y = init(&toy, &toy_nonce(), &data, &text);
+            let x = last_x(y, &cut(&data), &cut(&text));
             assert_eq!(tag_gen(&toy, x), tag);
             assert_ne!(toy(x), tag);
         }
@@ -478,11 +478,11 @@ mod tests {
     #[test]
     fn slip_b1_set_whenever_text_is_empty() {
         for ad_len in 0..=40 {
-            let ad = toy_ad(ad_len);
-            let b0 = ad.is_empty();
+            let data = toy_ad(ad_len);
+            let b0 = data.is_empty();
             let slipped = toy(start_block(&toy_nonce(), true, b0));
-            let y = init(&toy, &toy_nonce(), &ad, &[]);
-            let tag = |y| tag_gen(&toy, last_x(y, &cut(&ad), &[]));
+            let y = init(&toy, &toy_nonce(), &data, &[]);
+            let tag = |y| tag_gen(&toy, last_x(y, &cut(&data), &[]));
             assert_eq!(tag(slipped) == tag(y), b0, "{ad_len}");
         }
     }
@@ -520,7 +520,7 @@ mod tests {
     struct Sealed {
         key: Vec<u8>,
         nonce: Vec<u8>,
-        ad: Vec<u8>,
+        data: Vec<u8>,
         text: Vec<u8>,
         ciphertext: Vec<u8>,
         tag: Vec<u8>,
@@ -529,15 +529,15 @@ mod tests {
     /// Seals random-looking bytes of these lengths into room that is just long
     /// enough.
     fn sealed(random: &mut Random, ad_len: usize, text_len: usize) -> Sealed {
-        let [key, nonce, ad, text] = [16, 12, ad_len, text_len].map(|len| random.bytes(len));
+        let [key, nonce, data, text] = [16, 12, ad_len, text_len].map(|len| random.bytes(len));
         let mut ciphertext = vec![0xa5; text_len];
         let mut tag = vec![0x5a; 16];
-        let number = seal(&key, &nonce, &ad, &text, &mut ciphertext, &mut tag);
+        let number = seal(&key, &nonce, &data, &text, &mut ciphertext, &mut tag);
         assert_eq!(number, 0);
         Sealed {
             key,
             nonce,
-            ad,
+            data,
             text,
             ciphertext,
             tag,
@@ -552,7 +552,7 @@ mod tests {
                 let s = sealed(&mut random, ad_len, text_len);
                 let opened = |tag: &[u8]| {
                     let mut room = vec![0xa5; text_len + 3];
-                    let number = open(&s.key, &s.nonce, &s.ad, &s.ciphertext, tag, &mut room);
+                    let number = open(&s.key, &s.nonce, &s.data, &s.ciphertext, tag, &mut room);
                     (number, room)
                 };
                 let rest = [0xa5; 3];
@@ -572,7 +572,7 @@ mod tests {
             let s = sealed(&mut random, 5, text_len);
             let mut room = vec![0xa5; text_len + 20];
             let mut tag = [0x5a; 16];
-            let number = seal(&s.key, &s.nonce, &s.ad, &s.text, &mut room, &mut tag);
+            let number = seal(&s.key, &s.nonce, &s.data, &s.text, &mut room, &mut tag);
             assert_eq!(number, 0);
             assert_eq!(room, [&s.ciphertext[..], &[0xa5; 20]].concat());
             assert_eq!(tag[..], s.tag);
@@ -583,9 +583,9 @@ mod tests {
     fn every_byte_counts_in_opening() {
         let mut random = Random::new(54);
         let s = sealed(&mut random, 35, 37);
-        let given = [s.key, s.nonce, s.ad, s.ciphertext, s.tag];
-        let number = |[key, nonce, ad, ciphertext, tag]: &[Vec<u8>; 5]| {
-            open(key, nonce, ad, ciphertext, tag, &mut [0; 37])
+        let given = [s.key, s.nonce, s.data, s.ciphertext, s.tag];
+        let number = |[key, nonce, data, ciphertext, tag]: &[Vec<u8>; 5]| {
+            open(key, nonce, data, ciphertext, tag, &mut [0; 37])
         };
         assert_eq!(number(&given), 0);
         for which in 0..given.len() {
@@ -622,7 +622,7 @@ mod tests {
     fn longest_text_goes_both_ways() {
         let s = sealed(&mut Random::new(56), 65_536, 1_048_576);
         let mut room = vec![0xa5; s.text.len()];
-        let number = open(&s.key, &s.nonce, &s.ad, &s.ciphertext, &s.tag, &mut room);
+        let number = open(&s.key, &s.nonce, &s.data, &s.ciphertext, &s.tag, &mut room);
         assert_eq!(number, 0);
         assert!(room == s.text);
     }
@@ -632,9 +632,9 @@ mod tests {
     /// unless it is 0. Opening has a made-up tag, so there 7 stands for 0.
     fn expect(number: u32, lengths: [usize; 6]) {
         let mut random = Random::new(57);
-        let [key, nonce, ad, text, tag, room] = lengths.map(|len| random.bytes(len));
+        let [key, nonce, data, text, tag, room] = lengths.map(|len| random.bytes(len));
         let (mut lent, mut lent_tag) = (room.clone(), tag.clone());
-        let sealed = seal(&key, &nonce, &ad, &text, &mut lent, &mut lent_tag);
+        let sealed = seal(&key, &nonce, &data, &text, &mut lent, &mut lent_tag);
         assert_eq!(sealed, number, "{lengths:?}");
         assert_eq!(
             (&lent, &lent_tag) == (&room, &tag),
@@ -642,7 +642,7 @@ mod tests {
             "{lengths:?}"
         );
         let mut lent = room.clone();
-        let opened = open(&key, &nonce, &ad, &text, &tag, &mut lent);
+        let opened = open(&key, &nonce, &data, &text, &tag, &mut lent);
         assert_eq!(opened, if number == 0 { 7 } else { number }, "{lengths:?}");
         assert_eq!(lent == room, number != 0, "{lengths:?}");
     }

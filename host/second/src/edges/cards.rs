@@ -35,7 +35,7 @@ const SPARE: usize = 5;
 struct Card {
     key: usize,
     nonce: usize,
-    ad: usize,
+    data: usize,
     text: usize,
     room: usize,
     tag: usize,
@@ -45,11 +45,11 @@ struct Card {
 impl Card {
     /// The card with associated data and text of these lengths. All other lengths
     /// are right, and the tag stays as it is.
-    fn of(ad: usize, text: usize) -> Card {
+    fn of(data: usize, text: usize) -> Card {
         Card {
             key: 16,
             nonce: 12,
-            ad,
+            data,
             text,
             room: text + SPARE,
             tag: 16,
@@ -97,18 +97,18 @@ fn front(card: &Card) -> String {
     let Card {
         key,
         nonce,
-        ad,
+        data,
         text,
         room,
         tag,
         bit,
     } = card;
-    format!("{key} {nonce} {ad} {text} {room} {tag} {bit}")
+    format!("{key} {nonce} {data} {text} {room} {tag} {bit}")
 }
 
 /// A card's line.
 fn line(card: &Card) -> String {
-    let salted = [(1, card.key), (2, card.nonce), (3, card.ad)];
+    let salted = [(1, card.key), (2, card.nonce), (3, card.data)];
     let [k, n, a] = salted.map(|(salt, len)| filled(salt, len));
     let outcome = outcome(
         card,
@@ -134,12 +134,12 @@ fn short_line(text: usize) -> String {
 /// opened with the tag as it is and with its lowest bit flipped.
 fn length_cards() -> Vec<Card> {
     let mut list = Vec::new();
-    for ad in [0, 1, 15, 16, 17, 65_536, 65_537] {
+    for data in [0, 1, 15, 16, 17, 65_536, 65_537] {
         for text in [0, 1, 15, 16, 17, 4096, 4097] {
             for bit in [NO_BIT, 0] {
                 list.push(Card {
                     bit,
-                    ..Card::of(ad, text)
+                    ..Card::of(data, text)
                 });
             }
         }
@@ -157,7 +157,7 @@ fn refused_cards() -> Vec<Card> {
         Card {
             key: or(0, 17, 16),
             nonce: or(1, 11, 12),
-            ad: or(2, 65_537, 1),
+            data: or(2, 65_537, 1),
             text: 17,
             room: or(4, 16, 17),
             tag: or(3, or(5, 17, 15), 16),

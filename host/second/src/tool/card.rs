@@ -58,8 +58,8 @@ pub fn wide(iv: &[u8], block: &[u8]) -> Vec<u8> {
     [iv, block].concat()
 }
 
-/// The iv and the block of a wide file. "Of one shorter than 48 bytes the iv has
-/// a wrong length": it has what there is, and the block nothing.
+/// The iv and the block of a wide file. "If it is shorter than 48
+/// bytes, the iv has a wrong length": it has what there is, and the block nothing.
 pub fn wide_apart(file: &[u8]) -> (&[u8], &[u8]) {
     file.split_at(IV.min(file.len()))
 }

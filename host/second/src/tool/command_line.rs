@@ -101,7 +101,7 @@ impl Line {
     }
 
     /// Whether this input is read from standard input. Of `--in`: "Without it,
-    /// or where FILE is -".
+    /// or if FILE is -".
     pub fn is_standard_input(&self, name: &str) -> bool {
         match self.given(name) {
             Some(given) => INPUTS.contains(&name) && given.word == b"-",
@@ -109,8 +109,7 @@ impl Line {
         }
     }
 
-    /// Whether the result goes to standard output: "without it, or where FILE
-    /// is -".
+    /// Whether the result goes to standard output: "without it, or if FILE is -".
     pub fn to_standard_output(&self) -> bool {
         self.given("out").is_none_or(|given| given.word == b"-")
     }
@@ -217,7 +216,7 @@ fn fits_the_synopsis(line: &Line) -> bool {
     }
 }
 
-/// "Other inputs may be read from standard input by - too, but only one of them
+/// "Other inputs may be read from standard input by - too, but only one in
 /// all."
 fn standard_input_is_read_once(line: &Line) -> bool {
     let from_there = |name: &&&str| line.is_standard_input(name);

@@ -16,7 +16,7 @@ const CARD_KEY: usize = 16;
 /// "128 for a wide block".
 const WIDE_KEY: usize = 128;
 
-/// "At most 64 for a digest"; also the digest's length "where no --length says
+/// "At most 64 for a digest"; also the digest's length "unless --length says
 /// otherwise".
 const DIGEST: usize = 64;
 
@@ -47,8 +47,8 @@ fn judged(line: &Line, faults: &[Fault]) -> Result<(), Refusal> {
     }
 }
 
-/// The key of a card: "the key first, where it comes from a book by looking it
-/// up (10, 11)".
+/// The key of a card: "the key first, which is looked up if it comes from a book
+/// (10, 11)".
 fn card_key(line: &Line, around: &mut Around) -> Result<Vec<u8>, Refusal> {
     if line.has("key") {
         return read(line, "key", CARD_KEY, around);
@@ -66,7 +66,7 @@ fn card_key(line: &Line, around: &mut Around) -> Result<Vec<u8>, Refusal> {
     match books::find(&this_term, &last_term, class).number {
         0 => Ok(books::part(&this_term, &last_term, class).to_vec()),
         11 => Err(line.refused(11, "class")),
-        // "Whichever of --book/--last-book is badly formed, this term's first."
+        // Whichever book is badly formed is named, this term's first.
         _ => match books::find(&this_term, &empty, class).number {
             10 => Err(line.refused(10, "book")),
             _ => Err(line.refused(10, "last-book")),
@@ -96,8 +96,8 @@ fn data_option(line: &Line) -> &'static str {
     }
 }
 
-/// The associated data: "the bytes of a file, or the word itself. With neither
-/// it is empty."
+/// The associated data: "the bytes of a file, or the word itself, as it
+/// stands. With neither it is empty."
 fn data(line: &Line, around: &mut Around) -> Result<Vec<u8>, Refusal> {
     match line.given("label") {
         Some(given) => Ok(given.word.clone()),
@@ -193,8 +193,8 @@ fn seal(line: &Line, around: &mut Around) -> Result<(), Refusal> {
     hand_out(line, nonce.drawn, &card, around)
 }
 
-/// "Writes the text of a card, if its tag is right. Where it is wrong, no byte
-/// of text is written."
+/// "Writes the text of a card, if its tag is right. If it is wrong, no byte of
+/// text is written."
 fn open(line: &Line, around: &mut Around) -> Result<(), Refusal> {
     let key = card_key(line, around)?;
     let data = data(line, around)?;
@@ -206,7 +206,7 @@ fn open(line: &Line, around: &mut Around) -> Result<(), Refusal> {
             (data.len() > LONGEST_DATA, 3, data_option(line)),
         ],
     )?;
-    // "7 is said of a card only that is as long as it says."
+    // "7 is given only for a card that is as long as it says."
     let parts = card::taken_apart(&file).ok_or_else(|| line.refused(12, "in"))?;
     let Parts {
         nonce,
@@ -247,8 +247,8 @@ fn encipher(line: &Line, around: &mut Around) -> Result<(), Refusal> {
     hand_out(line, iv.drawn, &card::wide(&iv.bytes, &block), around)
 }
 
-/// "Writes the block of a wide file." "Of one shorter than 48 bytes the iv has a
-/// wrong length (2)."
+/// "Writes the block of a wide file." "If it is shorter than 48 bytes, the iv
+/// has a wrong length (2)."
 fn decipher(line: &Line, around: &mut Around) -> Result<(), Refusal> {
     let key = read(line, "key", WIDE_KEY, around)?;
     let file = read(line, "in", card::IV + LONGEST_BLOCK, around)?;
@@ -267,8 +267,8 @@ fn decipher(line: &Line, around: &mut Around) -> Result<(), Refusal> {
     hand_out(line, None, &block, around)
 }
 
-/// "Writes the BLAKE2b digest of at most 1,048,576 bytes, 64 bytes long where no
-/// --length says otherwise."
+/// "Writes the BLAKE2b digest of at most 1,048,576 bytes, 64 bytes long
+/// unless --length says otherwise."
 fn digest(line: &Line, around: &mut Around) -> Result<(), Refusal> {
     // "With no --key the digest has none."
     let key = read_if_given(line, "key", DIGEST, around)?.unwrap_or_default();
@@ -288,7 +288,7 @@ fn digest(line: &Line, around: &mut Around) -> Result<(), Refusal> {
     hand_out(line, None, &digest, around)
 }
 
-/// "Makes a drawer file. It never replaces one." The count is "0 where it is not
+/// "Makes a drawer file. It never replaces one." The count is "0 if it is not
 /// given".
 fn start(line: &Line, around: &mut Around) -> Result<(), Refusal> {
     let number = |name| line.number(name).unwrap_or(0);

@@ -104,7 +104,7 @@ fn found(file: &Path) -> Option<Found> {
     Some(Found::Bytes(bytes))
 }
 
-/// "The drawer is read (107, 102, 106)."
+/// "The drawer is taken and read (107, 102, 104, 106)."
 pub fn held(line: &Line, around: &Around) -> Result<Held, Refusal> {
     let word = line.given("drawer").map(|given| &given.word[..]);
     let file = path(word.unwrap_or_default(), around);

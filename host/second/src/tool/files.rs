@@ -61,7 +61,8 @@ pub fn read(
     }
 }
 
-/// Whether what is there is not replaced: "what is no file, and a drawer file".
+/// Whether what is there is not replaced: "anything but a file, and any drawer
+/// file".
 fn stays(file: &Path) -> bool {
     file.exists() && (!file.is_file() || fs::read(file).is_ok_and(|file| is_drawer(&file)))
 }
@@ -80,7 +81,7 @@ pub struct Place {
 impl Place {
     /// Takes the name of the file that the option `name` stands for. "Without
     /// --force the name is taken first, by an empty file"; "without it a file
-    /// that is there is refused" (103).
+    /// that exists is refused" (103).
     pub fn file(line: &Line, name: &str, force: bool, around: &Around) -> Result<Place, Refusal> {
         let word = line.given(name).map(|given| &given.word[..]);
         let file = path(word.unwrap_or_default(), around);
@@ -101,7 +102,7 @@ impl Place {
     }
 
     /// "The output's name is taken (103, 104)": that of the file behind --out.
-    /// "Without it, or where FILE is -, it goes to standard output."
+    /// "Without it, or if FILE is -, it goes to standard output."
     pub fn out(line: &Line, around: &Around) -> Result<Place, Refusal> {
         if !line.to_standard_output() {
             return Place::file(line, "out", line.has("force"), around);

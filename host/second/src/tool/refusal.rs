@@ -43,8 +43,8 @@ fn shown(byte: u8) -> u8 {
     }
 }
 
-/// "The last line on standard error is done where all went well, or refused
-/// NUMBER WORDS: INPUT (and a reason in brackets, where there is more to say)."
+/// "The last line on standard error is done if all went well, or refused
+/// NUMBER WORDS: INPUT (and a reason in brackets, if there is more to say)."
 /// There is never more to say here.
 pub fn last_line(outcome: &Result<(), Refusal>) -> Vec<u8> {
     let Err(Refusal { number, input }) = outcome else {
