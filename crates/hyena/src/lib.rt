@@ -80,7 +80,7 @@ pub fn open(
 // The associated data of the short forms.
 const SHORT_DATA: [u8; 0] = [];
 
-// Seals with the associated data of the short form, which is empty; otherwise `seal`.
+// Seals without associated data: `seal` with that of the short form, which is empty.
 pub fn seal_short(key: &[u8], nonce: &[u8], text: &[u8], room: &mut [u8], tag: &mut [u8]) -> u32
     ensures { λ r. ⌜ Sealing gift r (short (now (key .entry)) (now (nonce .entry)) (now (text .entry)))
         (now (room .entry)) (now (tag .entry)) (now (room .exit)) (now (tag .exit)) ⌝ }
@@ -88,7 +88,7 @@ pub fn seal_short(key: &[u8], nonce: &[u8], text: &[u8], room: &mut [u8], tag: &
     seal(key, nonce, &SHORT_DATA, text, room, tag)
 }
 
-// Opens with the associated data of the short form, which is empty; otherwise `open`.
+// Opens what was sealed without associated data: `open` with that of the short form, which is empty.
 pub fn open_short(key: &[u8], nonce: &[u8], ciphertext: &[u8], tag: &[u8], room: &mut [u8]) -> u32
     ensures { λ r. ⌜ Opening gift r (short (now (key .entry)) (now (nonce .entry)) (now (ciphertext .entry)))
         (now (tag .entry)) (now (room .entry)) (now (room .exit)) ⌝ }

@@ -6,7 +6,7 @@ ghost use lib.ListN.{length};
 ghost use Rattle.words.specs.Bytes.{plus};
 ghost use Rattle.answers.specs.Answers.{numberOf, answered};
 ghost use Rattle.lioness.specs.Lioness.{piece, left, streamStep, digestStep, step, steps};
-ghost use Rattle.lioness.specs.Steps.{Step, Allowed};
+ghost use Rattle.lioness.specs.Steps.{StepNumber, Allowed};
 ghost use Rattle.lioness.specs.Entry.{chacha, blake, rows, ordered, Enciphering, Deciphering};
 use answers::row;
 
@@ -26,7 +26,7 @@ pub fn decipher(key: &[u8], iv: &[u8], block: &mut [u8]) -> u32
 
 // Both entry points: the four steps in an order.
 fn in_order(a: usize, b: usize, c: usize, d: usize, key: &[u8], iv: &[u8], block: &mut [u8]) -> u32
-    requires { ⌜ Step a × Step b × Step c × Step d ⌝ }
+    requires { ⌜ StepNumber a × StepNumber b × StepNumber c × StepNumber d ⌝ }
     ensures { λ r. ⌜ answered r (now (block .exit))
         ≡ ordered a b c d (now (key .entry)) (now (iv .entry)) (now (block .entry)) ⌝ }
 {
@@ -41,7 +41,7 @@ fn in_order(a: usize, b: usize, c: usize, d: usize, key: &[u8], iv: &[u8], block
 // The steps, on a key and an iv that are cut to the lengths they have: so the compiler sees them, and makes the steps'
 // sums for these lengths and not for any.
 fn four_steps(a: usize, b: usize, c: usize, d: usize, key: &[u8], iv: &[u8], block: &mut [u8])
-    requires { ⌜ Step a × Step b × Step c × Step d × Allowed (now key) (now iv) (now block) ⌝ }
+    requires { ⌜ StepNumber a × StepNumber b × StepNumber c × StepNumber d × Allowed (now key) (now iv) (now block) ⌝ }
     ensures { λ _. ⌜ now (block .exit) ≡ steps chacha blake (now (key .entry)) (now (iv .entry)) a b c d
         (now (block .entry)) ⌝ }
 {
@@ -62,7 +62,7 @@ fn refusal(key: usize, iv: usize, block: usize) -> u32
 
 // Step j.
 fn step_of(j: usize, key: &[u8], iv: &[u8], block: &mut [u8])
-    requires { ⌜ Step j × Allowed (now key) (now iv) (now block) ⌝ }
+    requires { ⌜ StepNumber j × Allowed (now key) (now iv) (now block) ⌝ }
     ensures { λ _. ⌜ now (block .exit) ≡ step chacha blake (now (key .entry)) (now (iv .entry)) j
         (now (block .entry)) ⌝ }
 {
@@ -75,7 +75,7 @@ fn step_of(j: usize, key: &[u8], iv: &[u8], block: &mut [u8])
 
 // Enciphers R there in the caller's buffer.
 fn stream_step(j: usize, key: &[u8], iv: &[u8], block: &mut [u8])
-    requires { ⌜ Step j × Allowed (now key) (now iv) (now block) ⌝ }
+    requires { ⌜ StepNumber j × Allowed (now key) (now iv) (now block) ⌝ }
     ensures { λ _. ⌜ now (block .exit) ≡ streamStep chacha (now (key .entry)) (now (iv .entry)) j
         (now (block .entry)) ⌝ }
 {
@@ -87,7 +87,7 @@ fn stream_step(j: usize, key: &[u8], iv: &[u8], block: &mut [u8])
 
 // Adds the digest of R to L.
 fn digest_step(j: usize, key: &[u8], iv: &[u8], block: &mut [u8])
-    requires { ⌜ Step j × Allowed (now key) (now iv) (now block) ⌝ }
+    requires { ⌜ StepNumber j × Allowed (now key) (now iv) (now block) ⌝ }
     ensures { λ _. ⌜ now (block .exit) ≡ digestStep blake (now (key .entry)) (now (iv .entry)) j
         (now (block .entry)) ⌝ }
 {
@@ -99,7 +99,7 @@ fn digest_step(j: usize, key: &[u8], iv: &[u8], block: &mut [u8])
 
 // L plus the j-th part of the key.
 fn stream_key(j: usize, key: &[u8], block: &[u8]) -> [u8; 32]
-    requires { ⌜ Step j × (32 ≤ length (now block)) ⌝ }
+    requires { ⌜ StepNumber j × (32 ≤ length (now block)) ⌝ }
     ensures { λ r. ⌜ r ≡ plus (left (now (block .entry))) (piece 32 j (now (key .entry))) ⌝ }
 {
     let mut k = [0u8; 32];
@@ -110,7 +110,7 @@ fn stream_key(j: usize, key: &[u8], block: &[u8]) -> [u8; 32]
 
 // The j-th part of the key followed by the j-th of the iv.
 fn digest_key(j: usize, key: &[u8], iv: &[u8]) -> [u8; 44]
-    requires { ⌜ Step j × (length (now key) ≡ 128) × (length (now iv) ≡ 48) ⌝ }
+    requires { ⌜ StepNumber j × (length (now key) ≡ 128) × (length (now iv) ≡ 48) ⌝ }
     ensures { λ r. ⌜ r ≡ piece 32 j (now (key .entry)) ++ piece 12 j (now (iv .entry)) ⌝ }
 {
     let mut k = [0u8; 44];
