@@ -1,16 +1,18 @@
 # `make` proves and builds the archive and the Rust crate over it, `make tool` the office's tool; `make install` puts
 # header, archive and a pkg-config file under PREFIX (and DESTDIR before it, for packages), `make install-tool` the
-# tool and its man page. `make check` is the whole gate, `make wrong` tries the wrong programs that it does not try,
-# `make bench` is the benchmark.
+# tool, its man page and its completion for bash. `make check` is the whole gate, `make wrong` tries the wrong programs
+# that it does not try, `make bench` is the benchmark.
 
 PREFIX ?= /usr/local
 includedir = $(PREFIX)/include
 libdir = $(PREFIX)/lib
 bindir = $(PREFIX)/bin
 mandir = $(PREFIX)/share/man
+completionsdir = $(PREFIX)/share/bash-completion/completions
 version := $(shell sed -n 's/^version = "\(.*\)"$$/\1/p' host/Cargo.toml)
 archive = target/staticlib/libvespruldo.a
-tool = target/bin/cards
+tool = target/office/cards
+completion = target/office/completion
 sources = crates.txt $(shell find crates -type f)
 
 all: archive crate
@@ -21,12 +23,14 @@ archive: $(archive)
 $(archive): $(sources)
 	@tools/prove staticlib vespruldo
 
-tool: $(tool)
+tool: $(tool) $(completion)
 
-# What was proved and has not changed is not proved again, and the program not linked anew: so its time is set here.
-$(tool): $(sources)
-	@tools/prove check cards
-	@touch $(tool)
+$(tool): $(sources) office/main.c
+	@tools/link-tool
+
+$(completion): crates/cards/src/commands.rt crates/cards/src/options.rt tools/completion
+	@mkdir -p $(@D)
+	@tools/completion >$@.new && mv $@.new $@
 
 crate: $(archive)
 	. tools/x86-64.sh && cd host && x86_cargo build --release --locked --offline -p vespruldo
@@ -38,14 +42,16 @@ install: $(archive)
 	sed -e 's|@includedir@|$(includedir)|' -e 's|@libdir@|$(libdir)|' -e 's|@version@|$(version)|' vespruldo.pc.in \
 		>'$(DESTDIR)$(libdir)/pkgconfig/vespruldo.pc'
 
-install-tool: $(tool)
-	install -d '$(DESTDIR)$(bindir)' '$(DESTDIR)$(mandir)/man1'
+install-tool: $(tool) $(completion)
+	install -d '$(DESTDIR)$(bindir)' '$(DESTDIR)$(mandir)/man1' '$(DESTDIR)$(completionsdir)'
 	install -m 755 $(tool) '$(DESTDIR)$(bindir)'
 	install -m 644 docs/cards.1 '$(DESTDIR)$(mandir)/man1'
+	install -m 644 $(completion) '$(DESTDIR)$(completionsdir)/cards'
 
 uninstall:
 	rm -f '$(DESTDIR)$(includedir)/vespruldo.h' '$(DESTDIR)$(libdir)/libvespruldo.a' \
-		'$(DESTDIR)$(libdir)/pkgconfig/vespruldo.pc' '$(DESTDIR)$(bindir)/cards' '$(DESTDIR)$(mandir)/man1/cards.1'
+		'$(DESTDIR)$(libdir)/pkgconfig/vespruldo.pc' '$(DESTDIR)$(bindir)/cards' \
+		'$(DESTDIR)$(mandir)/man1/cards.1' '$(DESTDIR)$(completionsdir)/cards'
 
 check:
 	.ci/run

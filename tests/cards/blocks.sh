@@ -17,7 +17,7 @@ wide_blocks() {
     done
     "${cards[@]}" encipher --key wk --iv iv <block 2>one |
         { sleep 0.1 && "${cards[@]}" decipher --key wk 2>two; } >deciphered
-    is 'the last lines' 'done done' "$(<one) $(<two)"
+    is 'standard error of both' '' "$(cat one two)"
     same block deciphered
     wide_in_hex
     wide_refusals
@@ -43,8 +43,10 @@ wide_refusals() {
     for length in 0 32 1048609; do
         some "$length" >block
         refused 4 '--in block' encipher --key wk --iv iv --in block --out new
+        reason_is 'must be 33 to 1048608 bytes'
         cat iv block >wide
         refused 4 '--in wide' decipher --key wk --in wide --out new
+        reason_is 'must be 81 to 1048656 bytes'
     done
     refused 4 'standard input' encipher --key wk --iv iv --out new </dev/zero
     refused 4 '--in /dev/zero' decipher --key wk --in /dev/zero --out new
@@ -56,6 +58,7 @@ wide_refusals() {
     for length in 0 47; do
         some "$length" >short
         refused 2 '--in short' decipher --key wk --in short --out new
+        reason_is 'must be 81 to 1048656 bytes'
     done
     for length in 127 129; do
         some "$length" >key
@@ -112,7 +115,13 @@ b5e996e8f0f4eb981fc214b005f42d2ff4233499391653df7aefcbc13fc51568 \
     digest_is 961f6dd1e4dd30f63901690c512e78e4b45e4742ed197c3c5e45c549fd25f2e4\
 187b0bc9fe30492b16b0d0bc4ef9b0f34c7003fac09a5ef1532e69430234cebd \
         --key-hex key.hex --in zero
-    digest_is "$(b2sum_of 512 abc)" --key empty --in abc
+    # An empty key is none at all, which is never what was meant by naming one.
+    refused 1 '--key empty' digest --key empty --in abc --out new
+    refused 1 '--key-hex empty' digest --key-hex empty --in abc
+    refused 1 'standard input' digest --key - --in abc </dev/null
+    some 1 >key
+    works digest --key key --in abc
+    [ "$(<"$out")" != "$(b2sum_of 512 abc)" ] || fail 'a digest with a key' 'that without one'
 }
 
 digest_refusals() {

@@ -16,8 +16,7 @@ draws() {
 }
 
 drawers() {
-    works start --drawer d --reader 42 --count 7
-    is 'standard output' '' "$(hex_of "$out")"
+    works_silently start --drawer d --reader 42 --count 7
     drawer_is d 2a000000 0700000000000000
     draws 2a0000000700000000000000
     draws 2a0000000800000000000000
@@ -32,6 +31,28 @@ drawers() {
     drawer_is d 2a000000 0d00000000000000
     counts_carry
     never_started_again
+    readers_at_random
+}
+
+# Without --reader the number is the system's choice, and is printed: no two drawers have the same.
+readers_at_random() {
+    local i number
+    for i in {1..4}; do
+        works start --drawer "random$i" --count "$i"
+        number=$(<"$out")
+        number=${number#reader }
+        [[ $number =~ ^(0|[1-9][0-9]*)$ && $number -lt 4294967296 ]] || fail 'a number below 2^32' "$(<"$out")"
+        echo "reader $number" | cmp -s - "$out" || fail 'one line' "$(od -c "$out")"
+        low_first "$number" 4
+        drawer_is "random$i" "$low_first" "0${i}00000000000000"
+        echo "$number" >>readers
+    done
+    is 'readers that came twice' '' "$(sort readers | uniq -d)"
+    refused 103 '--drawer random1' start --drawer random1
+    # Nobody saw the number, so there is no drawer.
+    into /dev/full start --drawer random5
+    says_refused 104 'standard output'
+    absent random5
 }
 
 counts_carry() {
@@ -180,15 +201,13 @@ drawers_in_use() {
 state_before_number() {
     setting
     works start --drawer d --reader 42
-    ran=(draw --drawer d)
-    said=$("${cards[@]}" draw --drawer d 2>&1 >/dev/full)
+    into /dev/full draw --drawer d
     says_refused 104 'standard output'
     drawer_is d 2a000000 0100000000000000
-    said=$("${cards[@]}" draw --drawer d 2>&1 >&-)
+    closed output draw --drawer d
     says_refused 104 'standard output'
     drawer_is d 2a000000 0200000000000000
-    ran=(seal --key k --drawer d --in song)
-    said=$("${cards[@]}" "${ran[@]}" 2>&1 >/dev/full)
+    into /dev/full seal --key k --drawer d --in song
     says_refused 104 'standard output'
     drawer_is d 2a000000 0300000000000000
     limited 0 draw --drawer d
@@ -210,24 +229,33 @@ draws_at_once() {
     ran=(draw --drawer d '(eight at once)')
     for round in {1..3}; do
         for i in {1..4}; do
-            "${cards[@]}" draw --drawer d >"number.$round.$i" 2>"said.$round.$i" &
+            at_once "$round.$i" draw --drawer d >"number.$round.$i" &
         done
         for i in {5..8}; do
-            "${cards[@]}" encipher --key wk --drawer d --in block >"wide.$round.$i" 2>"said.$round.$i" &
+            at_once "$round.$i" encipher --key wk --drawer d --in block >"wide.$round.$i" &
         done
         wait
         for i in {5..8}; do head -c 12 "wide.$round.$i" | hex_of - >"number.$round.$i"; done
-        grep -qx 'done' said."$round".* || fail 'a number in each round' "$(cat said."$round".*)"
+        grep -qx 0 status."$round".* || fail 'a number in each round' "$(cat said."$round".*)"
         counted
     done
     numbers_at_once
+}
+
+# at_once WHICH ARGUMENT..: keeps what it says, and its exit status.
+at_once() {
+    local status=0
+    "${cards[@]}" "${@:2}" 2>"said.$1" || status=$?
+    echo $status >"status.$1"
 }
 
 numbers_at_once() {
     local file
     for file in number.*; do
         said=$(<"said.${file#*.}")
-        if [ "$said" = 'done' ]; then
+        status=$(<"status.${file#*.}")
+        if [ "$status" -eq 0 ]; then
+            was_done ''
             [[ $(<"$file") =~ ^2a000000[0-9a-f]{16}$ ]] || fail 'a number' "$(<"$file")"
             echo "$(<"$file")" >>numbers
             counted
@@ -244,7 +272,7 @@ numbers_at_once() {
 # Killed at any moment, it never hands a number out that the drawer still has. The moments are spread over the time that
 # one run takes, from its middle on, since it begins with the program being loaded.
 draws_killed() {
-    local i start micros delay
+    local i start micros delay status
     works start --drawer d --reader 42
     start=$(date +%s%N)
     works draw --drawer d
@@ -253,7 +281,11 @@ draws_killed() {
     ran=(draw --drawer d '(killed)')
     for i in {18..32}; do
         printf -v delay '0.%06d' $((micros * i / 30 % 1000000 + 1))
-        { timeout -s KILL "$delay" "${cards[@]:2}" draw --drawer d >one 2>/dev/null || true; } 2>/dev/null
+        status=0
+        { timeout -s KILL "$delay" "${cards[@]:2}" draw --drawer d >one 2>/dev/null || status=$?; } 2>/dev/null
+        # 0 means that all was done, so the whole line is there.
+        if [ "$status" -eq 0 ]; then is 'characters in a whole line' 25 "$(wc -c <one)"; fi
+        [[ $status == 0 || $status == 137 ]] || fail 'exit status 0 or 137' "$status"
         [ ! -s one ] || echo "$(<one)" >>numbers # the end of the line may be missing
         rm -f d.next
     done

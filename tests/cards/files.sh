@@ -6,14 +6,19 @@
 # limit; what is written there would be in $said too.
 limited() {
     ran=("${@:2}")
-    said=$(trap '' XFSZ && ulimit -f "$1" && "${cards[@]}" "${@:2}" 2>&1)
+    heard under_limit "$@"
 }
+
+under_limit() { trap '' XFSZ && ulimit -f "$1" && "${cards[@]}" "${@:2}" 2>&1; }
 
 # The same, but the signal that comes with the limit is not ignored: it may kill the program.
 killed() {
     ran=("${@:2}")
-    { said=$(ulimit -c 0 && ulimit -f "$1" && "${cards[@]}" "${@:2}" 2>&1); } 2>/dev/null || true
-    [ -z "$said" ] || says_refused 104 '*'
+    status=0
+    { said=$(ulimit -c 0 && ulimit -f "$1" && "${cards[@]}" "${@:2}" 2>&1); } 2>/dev/null || status=$?
+    [ "$status" -ne 0 ] || fail 'an exit status that is not 0' "0, and: $said"
+    [ "$status" -gt 128 ] && [ -z "$said" ] || says_refused 104 '*'
+    counted
 }
 
 unreadable() {
@@ -69,7 +74,7 @@ under_name() {
 names() {
     local name
     for name in 'two words' $'x\ndone' $'a\tb\r\e[31m\x7f\x01' -dash ';*\n%s%n' $'caf\xe9\xff' \
-        "it's \$(touch new)\`ls\`: done (\"done\")"; do
+        $'c1\xc2\x9b31m\xc2\x85\xc3\x80x' "it's \$(touch new)\`ls\`: done (\"done\")"; do
         under_name "$name"
     done
     mkdir 'a folder' 'a folder/-x'
@@ -80,30 +85,71 @@ names() {
     is 'the card' "$known_card" "$(hex_of '../card 1')"
 }
 
+# Sets long_name to a name of so many bytes with this behind it: long_name BYTES [END].
+long_name() {
+    local end=${2-}
+    printf -v long_name '%*s' $(($1 - ${#end})) ''
+    long_name=${long_name// /n}$end
+}
+
+# The longest name has 255 bytes, whatever the tool puts behind or before it meanwhile.
 long_names() {
-    local longest longer
+    local length name
     setting
-    printf -v longest 'n%.0s' {1..255}
-    printf -v longer 'n%.0s' {1..256}
+    for length in 245 250 251 255; do
+        long_name $length
+        name=$long_name
+        works_silently seal --key k --nonce n --in song --out "$name"
+        is 'the card' "$known_card" "$(hex_of "$name")"
+        rm "$name"
+        works_silently start --drawer "$name" --reader 42
+        works draw --drawer "$name"
+        works_silently seal --key k --drawer "$name" --in song --out card
+        is 'the nonce' 2a0000000100000000000000 "$(head -c 12 card | hex_of -)"
+        drawer_is "$name" 2a000000 0200000000000000
+        rm "$name" card
+    done
+    echo old >"$name"
+    works_silently seal --key k --nonce n --in song --out "$name" --force
+    is 'the card' "$known_card" "$(hex_of "$name")"
+    names_too_long
+    drawers_alike
+}
+
+names_too_long() {
+    local longer
+    long_name 256
+    longer=$long_name
+    works start --drawer d --reader 42
     refused 102 "--in $longer" seal --key k --nonce n --in "$longer" --out new
     refused 104 "--out $longer" seal --key k --nonce n --in song --out "$longer"
-    # Here the name itself is not too long, but those with more behind it are.
-    refused 104 "--out $longest" seal --key k --nonce n --in song --out "$longest"
-    refused 104 "--out $longest" seal --key k --nonce n --in song --out "$longest" --force
-    refused 104 "--drawer $longest" start --drawer "$longest" --reader 1
-    cp song "$longest"
-    refused 104 "--out $longest" seal --key k --nonce n --in song --out "$longest" --force
-    works seal --key k --nonce n --in "$longest"
-    is 'the card' "$known_card" "$(hex_of "$out")"
-    rm "$longest"
-    works start --drawer d --reader 42
-    mv d "$longest"
-    refused 104 "--drawer $longest" draw --drawer "$longest"
-    # Where the drawer's next state is on the disk, and only then the output's name turns out too long, a number is spent.
-    mv "$longest" d
-    run_it seal --key k --drawer d --in song --out "$longest"
-    says_refused 104 "--out $longest"
-    absent "$longest"
+    refused 104 "--out $longer" seal --key k --nonce n --in song --out "$longer" --force
+    refused 104 "--out $longer" seal --key k --drawer d --in song --out "$longer"
+    refused 104 "--drawer $longer" start --drawer "$longer" --reader 1
+    refused 102/104 "--drawer $longer" draw --drawer "$longer"
+}
+
+# Drawers whose names differ in their last bytes alone share the file beside them, and nothing else.
+drawers_alike() {
+    local one two next
+    long_name 255 a
+    one=$long_name
+    long_name 255 b
+    two=$long_name
+    long_name 255 .next
+    next=$long_name
+    works start --drawer "$one" --reader 1
+    works start --drawer "$two" --reader 2
+    works draw --drawer "$one"
+    works draw --drawer "$two"
+    works draw --drawer "$one" --out-hex number
+    is 'the number' 010000000100000000000000 "$(<number)"
+    drawer_is "$one" 01000000 0200000000000000
+    drawer_is "$two" 02000000 0100000000000000
+    refused 101 '*' draw --drawer "$one" --out "$next"
+    : >"$next"
+    refused 107 "--drawer $two" draw --drawer "$two"
+    rm "$next"
 }
 
 nothing_overwritten() {
@@ -117,10 +163,13 @@ nothing_overwritten() {
     mkfifo pipe
     ln -s song link
     local there
-    for there in old folder pipe link k; do
+    ln -s /proc/self/fd/1 stdout # as /dev/stdout is
+    for there in old folder pipe link k stdout; do
         refused 103 "--out $there" seal --key k --nonce n --in song --out "$there"
         refused 103 "--out-hex $there" draw --drawer d --out-hex "$there"
     done
+    refused 103 '--out d' digest --in song --out d
+    [[ $said != *--force* ]] || fail 'nothing about --force, which does not replace a drawer either' "$said"
     refused 103 '--out old' open --key k --in card --out old
     refused 103 '--out old' encipher --key wk --iv iv --in block --out old
     refused 103 '--out old' decipher --key wk --in wide --out old
@@ -131,16 +180,24 @@ nothing_overwritten() {
     refused 103 '--out /dev/null' seal --key k --nonce n --in song --out /dev/null
 }
 
-# A drawer is never replaced, neither under its own name nor under another, and the file beside it is no output.
+# A drawer is never replaced, neither under its own name nor under another.
 drawers_stay() {
-    refused 101 '*' draw --drawer d --out d --force
-    refused 101 '*' draw --drawer d --out-hex d.next --force
-    refused 104 '--out ./d' draw --drawer d --out ./d --force
     refused 104 '--out d' digest --in song --out d --force
+    refused 104 '--out ./d' digest --in song --out ./d --force
     ln d same-drawer
     refused 104 '--out same-drawer' digest --in song --out same-drawer --force
     works draw --drawer d
     is 'the number' 2a0000000100000000000000 "$(cat "$out")"
+}
+
+# Standard output, to which no option leads here, is a pipe: nothing comes through it.
+into_a_pipe() {
+    local came
+    ran=("$@")
+    status=0
+    came=$("${cards[@]}" "$@" 2>"$err") || status=$?
+    is 'what comes through the pipe' '' "$came"
+    said=$(<"$err")
 }
 
 force() {
@@ -167,11 +224,16 @@ force() {
     refused 102 '--in none' seal --key k --nonce n --in none --out old --force
     mkdir folder folder/inside empty
     mkfifo pipe
+    ln -s old link
+    ln -s nowhere loose
+    ln -s /proc/self/fd/1 stdout # as /dev/stdout is
     local there
-    for there in folder empty pipe; do
+    for there in folder empty pipe link loose stdout; do
         refused 104 "--out $there" seal --key k --nonce n --in song --out "$there" --force
         refused 104 "--out $there" draw --drawer d --out "$there" --force
     done
+    into_a_pipe seal --key k --nonce n --in song --out stdout --force
+    says_refused 104 '--out stdout'
     refused 104 '--out no/card' seal --key k --nonce n --in song --out no/card --force
     drawers_stay
     [ "$(id -u)" -ne 0 ] || return 0 # a fault would cost root the device
@@ -181,9 +243,13 @@ force() {
 # closed WHICH ARGUMENT..: runs it with standard input, output, error or all three closed.
 closed() {
     ran=("${@:2}")
+    heard without "$@"
+}
+
+without() {
     case $1 in
-    input) said=$("${cards[@]}" "${@:2}" 2>&1 <&-) ;;
-    output) said=$("${cards[@]}" "${@:2}" 2>&1 >&-) ;;
+    input) "${cards[@]}" "${@:2}" 2>&1 <&- ;;
+    output) "${cards[@]}" "${@:2}" 2>&1 >&- ;;
     error) "${cards[@]}" "${@:2}" >"$out" 2>&- ;;
     all) "${cards[@]}" "${@:2}" <&- >&- 2>&- ;;
     esac
@@ -193,77 +259,92 @@ closed_and_full() {
     local command
     setting
     bytes "$known_card" >card
-    for command in 'seal --key k --nonce n' 'open --key k' 'encipher --key wk --iv iv' 'seal --nonce n --in song --key -' \
-        'open --in card --key k --data -'; do
+    for command in 'seal --key k --nonce n --out new' 'open --key k --out new' 'encipher --key wk --iv iv --out new' \
+        'seal --nonce n --in song --key - --out new' 'open --in card --key k --data - --out new' 'book --out new' \
+        'check --key k' show; do
         # shellcheck disable=SC2086
-        closed input $command --out new
+        closed input $command
         says_refused 102 '*'
         absent new
     done
     closed input digest
     says_refused 102 'standard input'
     closed input seal --key k --nonce n --in song --out new # which does not need it
-    is 'the last line' 'done' "$said"
+    was_done ''
     same card new
-    for command in 'seal --key k --nonce n --in song' 'open --key k --in card' 'digest --in song --out -' help; do
+    for command in 'seal --key k --nonce n --in song' 'open --key k --in card' 'digest --in song --out -' help \
+        --version 'show --in card'; do
         # shellcheck disable=SC2086
         closed output $command
         says_refused 104 'standard output'
         # shellcheck disable=SC2086
-        said=$("${cards[@]}" $command 2>&1 >/dev/full)
+        into /dev/full $command
         says_refused 104 'standard output'
     done
-    closed output seal --key k --nonce n --in song --out beside
-    is 'the last line' 'done' "$said"
+    for command in 'seal --key k --nonce n --in song --out beside' 'check --key k --in card'; do
+        # shellcheck disable=SC2086
+        closed output $command # which does not need it
+        was_done ''
+    done
     same card beside
     closed_error
     all_closed
 }
 
-# The last line then goes nowhere: above all not into a file that was opened in the place of standard error.
+# closed_answers STATUS WHICH ARGUMENT..: with nowhere to say it, the exit status still tells.
+closed_answers() {
+    closed "${@:2}"
+    is 'exit status' "$1" "$status"
+}
+
+# What it says then goes nowhere: above all not into a file that was opened in the place of standard error.
 closed_error() {
     works start --drawer d --reader 42
-    closed error seal --key k --nonce n --in song --out quiet
+    closed_answers 0 error seal --key k --nonce n --in song --out quiet --verbose
     same card quiet
-    closed error seal --key k --nonce n --in song
+    closed_answers 0 error seal --key k --nonce n --in song
     same card "$out"
-    closed error draw --drawer d
+    closed_answers 0 error draw --drawer d --verbose
     is 'the number' 2a0000000000000000000000 "$(cat "$out")"
     drawer_is d 2a000000 0100000000000000
-    closed error draw --drawer d --out number
+    closed_answers 0 error draw --drawer d --out number
     is 'the number' 2a0000000100000000000000 "$(hex_of number)"
     drawer_is d 2a000000 0200000000000000
-    closed error start --drawer e --reader 43
+    closed_answers 0 error start --drawer e --reader 43
     drawer_is e 2b000000 0000000000000000
     local before
     before=$(listing)
-    closed error open --key k --label x --in card --out new
-    closed error seal --key n --drawer d --in song --out card
-    closed error start --drawer d --reader 1
-    closed error seal --bogus
+    closed_answers 7 error open --key k --label x --in card --out new
+    closed_answers 1 error seal --key n --drawer d --in song --out card
+    closed_answers 103 error start --drawer d --reader 1
+    closed_answers 101 error seal --bogus
+    closed_answers 101 error
     unchanged "$before"
-    "${cards[@]}" seal --key k --nonce n --in song --out said-nothing 2>/dev/full
+    "${cards[@]}" seal --key k --nonce n --in song --out said-nothing --verbose 2>/dev/full
     same card said-nothing
+    status=0
+    "${cards[@]}" seal --key k --nonce n --in song --out card 2>/dev/full || status=$?
+    is 'exit status' 103 "$status"
 }
 
 all_closed() {
-    closed all seal --key k --drawer d --in song --out closed
+    closed_answers 0 all seal --key k --drawer d --in song --out closed
     works open --key k --in closed
     same song "$out"
     drawer_is d 2a000000 0300000000000000
-    closed all start --drawer f --reader 44
+    closed_answers 0 all start --drawer f --reader 44
     drawer_is f 2c000000 0000000000000000
-    closed all draw --drawer f --out drawn
+    closed_answers 0 all draw --drawer f --out drawn
     is 'the number' 2c0000000000000000000000 "$(hex_of drawn)"
     drawer_is f 2c000000 0100000000000000
-    closed all draw --drawer f
+    closed_answers 104 all draw --drawer f
     drawer_is f 2c000000 0200000000000000
     local before
     before=$(listing)
-    closed all seal --key k --nonce n
-    closed all seal --key k --nonce n --in song
-    closed all open --key k --in card --label x --out new
-    closed all
+    closed_answers 102 all seal --key k --nonce n
+    closed_answers 104 all seal --key k --nonce n --in song
+    closed_answers 7 all open --key k --in card --label x --out new
+    closed_answers 101 all
     unchanged "$before"
 }
 
@@ -293,28 +374,41 @@ limits() {
     says_refused 104 '--out old'
     drawer_is d 2a000000 0200000000000000
     ran=(seal --key k --nonce n --in long)
-    said=$(trap '' XFSZ && ulimit -f 1 && "${cards[@]}" "${ran[@]}" 2>&1 >"$out")
+    status=0
+    said=$(trap '' XFSZ && ulimit -f 1 && sent_into "$out" "${ran[@]}") || status=$?
     says_refused 104 'standard output'
     limits_that_kill
 }
 
 limits_that_kill() {
+    umask 000
     killed 1 seal --key k --nonce n --in long --out old --force
     is 'the old file' old "$(cat old)"
+    part_is_private
     killed 1 seal --key k --drawer d --in long --out old --force
     is 'the old file' old "$(cat old)"
-    rm -f ./*.part d.next
     drawer_is d 2a000000 0300000000000000
     killed 1 seal --key k --drawer d --in long --out new
     [ ! -s new ] || fail 'no card, or an empty file in its place' "$(wc -c <new) bytes"
-    rm -f ./*.part d.next new
+    rm -f new
     drawer_is d 2a000000 0400000000000000
+    # Such files are in nobody's way.
+    works seal --key k --nonce n --in long --out new
     # No number was handed out, so the drawer may still have it.
     killed 0 draw --drawer d
     drawer_is d 2a000000 0400000000000000
     rm -f d.next
     draws 2a0000000400000000000000
-    rm -f ./*.part
+    rm -f .cards.*
+}
+
+# What a run that was killed has written so far is for nobody else to read.
+part_is_private() {
+    local part
+    [ "$status" -gt 128 ] || return 0 # it was refused, so nothing is left
+    part=$(find . -name '.*' -type f)
+    [[ $part =~ ^\./\.cards\.[A-Za-z0-9]{6}$ ]] || fail 'a file .cards. and six letters or digits' "$part"
+    rights_are 600 "$part"
 }
 
 # In a namespace of its own where there can be one, so that nothing is left mounted whatever happens.

@@ -1,5 +1,5 @@
-# To be sourced: how the tests of cards run the program and judge what it says. program, x86_run and work are set; each
-# group of checks has its own group, out, err and count.
+# To be sourced: how the tests of cards run the program, and judge what it says and answers. program, x86_run and work
+# are set; each group of checks has its own group, out, err and count.
 # shellcheck shell=bash
 # shellcheck disable=SC2154
 
@@ -9,6 +9,7 @@ cards=(timeout 20)
 cards+=("$program")
 ran=()
 said=
+status=0
 
 # The man page's words for each number (man_page checks that they are).
 declare -A words=(
@@ -17,8 +18,16 @@ declare -A words=(
     [7]='opening: tag is not the recomputed one' [9]='drawer spent' [10]='either key book badly formed'
     [11]='neither book has an entry for the class' [12]='cut short' [15]='bytes left over'
     [101]='command line not understood' [102]='cannot be read' [103]='exists already' [104]='cannot be written'
-    [105]='not hex' [106]='drawer file damaged' [107]='drawer in use'
+    [105]='not hex' [106]='drawer file damaged' [107]='drawer in use' [108]='entries not understood'
 )
+
+# The reasons that always stand behind a number.
+declare -A always=(
+    [7]='another key, another label or data, or the card was changed'
+    [107]='another cards draws: try again; if none runs, remove the file with .next behind its name'
+)
+
+commands=(seal open check encipher decipher digest start draw show book classes)
 
 # The count is in a file, so that a check in a subshell counts too.
 counted() { printf . >>"$count"; }
@@ -49,7 +58,7 @@ group() {
     mkdir "$folder"
     cd "$folder"
     "$2"
-    is 'files left behind' '' "$(find "$folder" -name '*.part' -o -name '*.next')"
+    is 'files left behind' '' "$(find "$folder" -name '.cards.*' -o -name '*.part' -o -name '*.next')"
     echo "cards: $group: $(wc -c <"$count" | tr -d ' ') checks"
 }
 
@@ -72,6 +81,12 @@ absent() {
     counted
 }
 
+# rights_are RIGHTS FILE..
+rights_are() {
+    local file
+    for file in "${@:2}"; do is "the rights of $file" "$1" "$(stat -c %a "$file")"; done
+}
+
 # Everything about the files here but their bytes, which do not change without their times. With --force the time of the
 # old file may change, since the man page only has it stay; so there are the bytes, and no times.
 listing() {
@@ -85,22 +100,51 @@ listing() {
     cksum "${plain[@]}"
 }
 
-# Runs the program: its outputs are in $out and $err, its last line, which must be the only one, in $said.
+# heard COMMAND..: runs it, whatever it answers: its exit status is in $status, what it prints in $said.
+heard() {
+    status=0
+    said=$("$@") || status=$?
+    ended
+}
+
+# into FILE ARGUMENT..: runs it with this as its standard output; what it says is in $said.
+into() {
+    ran=("${@:2}")
+    heard sent_into "$@"
+}
+
+sent_into() { "${cards[@]}" "${@:2}" 2>&1 >"$1"; }
+
+ended() { [ "$status" -ne 124 ] || fail 'an end' 'it still runs after twenty seconds'; }
+
+# Runs the program: its outputs are in $out and $err, the latter, without its last line end, in $said too.
 run_it() {
-    local status=0 all=
+    local all=
     ran=("$@")
+    status=0
     "${cards[@]}" "$@" >"$out" 2>"$err" || status=$?
-    [ "$status" -ne 124 ] || fail 'an end' 'it still runs after twenty seconds'
-    [ "$status" -eq 0 ] || fail 'exit status 0' "exit status $status, and: $(head -c 1000 "$err")"
+    ended
     IFS= read -r -d '' all <"$err" || true
     said=${all%$'\n'}
-    [[ $all == "$said"$'\n' && $said != *$'\n'* ]] || fail 'one line on standard error' "$all"
+    [[ -z $all || $all == "$said"$'\n' ]] || fail 'whole lines on standard error' "$all"
+}
+
+# was_done SAID: it ended with 0, and said this on standard error.
+was_done() {
+    [ "$status" -eq 0 ] || fail 'exit status 0' "exit status $status, and: ${said:0:1000}"
+    [ "$said" = "$1" ] || fail "${1:-nothing} on standard error" "$said"
+    counted
 }
 
 works() {
     run_it "$@"
-    [ "$said" = 'done' ] || fail 'done' "$said"
-    counted
+    was_done ''
+}
+
+# works_silently ARGUMENT..: nothing on standard output either.
+works_silently() {
+    works "$@"
+    [ ! -s "$out" ] || fail 'nothing on standard output' "$(head -c 300 "$out" | od -c)"
 }
 
 # refused NUMBER INPUT ARGUMENT..: it says so, writes nothing, and changes no file here. For NUMBER see says_refused.
@@ -122,18 +166,70 @@ unchanged() {
     [ "$after" = "$before" ] || fail "files as they were:"$'\n'"$before" "$after"
 }
 
-# says_refused NUMBER INPUT, of $said: more than one NUMBER, with / between them, where the man page leaves it
-# open; INPUT is * where it may be any that was given.
+# says_refused NUMBER INPUT, of $said, the only line, and $status: more than one NUMBER, with / between them, where the
+# man page leaves it open; INPUT is * where it may be any that was given.
 says_refused() {
-    local number=${said#refused } rest
+    local number=${said#cards: refused } rest
     number=${number%% *}
-    [[ $said == 'refused '* && $said != *$'\n'* && /$1/ == */"$number"/* ]] || fail "refused $1" "$said"
-    rest=${said#"refused $number ${words[$number]}"}
-    [ "$rest" != "$said" ] || fail "refused $number ${words[$number]}" "$said"
+    [[ $said == 'cards: refused '* && $said != *$'\n'* && /$1/ == */"$number"/* ]] || fail "cards: refused $1" "$said"
+    [ "$status" = "$number" ] || fail "exit status $number" "exit status $status, and: $said"
+    rest=${said#"cards: refused $number ${words[$number]}"}
+    [ "$rest" != "$said" ] || fail "cards: refused $number ${words[$number]}" "$said"
     # Which word of a command line is not understood may be seen in more than one way.
     [ "$number" = 101 ] && [[ $rest == ': '* ]] || names_input "$2" "$rest" ||
-        fail "refused $number ${words[$number]}: $2" "$said"
+        fail "cards: refused $number ${words[$number]}: $2" "$said"
+    reason_fits "$number" "$rest"
     counted
+}
+
+# reason_is WORDS, in the brackets at the end of $said.
+reason_is() {
+    [[ $said == *" ($1)" ]] || fail "($1) at the end" "$said"
+    counted
+}
+
+# reason_fits NUMBER ": INPUT (REASON)"
+reason_fits() {
+    [ -z "${always[$1]-}" ] || reason_is "${always[$1]}"
+    case $1 in
+    101) names_help "$2" ;;
+    103) names_force "$2" ;;
+    *) [[ $2 != *'--force replaces'* ]] || fail 'nothing about --force' "$said" ;;
+    esac
+}
+
+# A wrong use names the help of its command, or where none is understood help itself.
+names_help() {
+    local command=${ran[0]-} see='see cards help'
+    [ "$command" != help ] || return 0 # which may name itself or the command that it was asked about
+    [[ -z $command || " ${commands[*]} " != *" $command "* ]] || see+=" $command"
+    [[ $1 == *' ('*"$see)" ]] || fail "$see) at the end" "$said"
+}
+
+# 103 names --force exactly if it would help: not with start, and not over what is no file, or is a drawer or an input.
+names_force() {
+    local helps='(--force replaces it)' file= i
+    [[ $1 != *--force* || $1 == *" $helps" ]] || fail "$helps, or nothing about --force" "$said"
+    for ((i = 1; i + 1 < ${#ran[@]}; i++)); do
+        [[ ${ran[i]} != --out && ${ran[i]} != --out-hex ]] || file=${ran[i + 1]}
+    done
+    if [[ -L $file || ! -f $file ]] || is_input "$file"; then
+        [[ $1 != *--force* ]] || fail 'nothing about --force' "$said"
+    elif [ "$(wc -c <"$file")" -ne 44 ]; then # or it can be a drawer, which is judged where that is tried
+        [[ $1 == *" $helps" ]] || fail "$helps at the end" "$said"
+    fi
+}
+
+# Whether this file is read for an option other than --in.
+is_input() {
+    local i
+    for ((i = 1; i + 1 < ${#ran[@]}; i++)); do
+        case ${ran[i]} in
+        --out | --out-hex | --in | --in-hex) ;;
+        --*) [ ! "$1" -ef "${ran[i + 1]}" ] || return 0 ;;
+        esac
+    done
+    return 1
 }
 
 # Whether ": INPUT", or ": INPUT (reason)", names this input, or where it is * any option that was given and its word.
@@ -150,13 +246,18 @@ names_input() {
     return 1
 }
 
-# A control character is shown as ?. Bytes that are not ASCII may be shown as they are, or so too.
+# A control character is shown as ?; those of two bytes, U+0080 to U+009F, in whichever way lets none through. Other
+# bytes that are not ASCII may be shown as they are, or so too.
 shown_as() {
-    local plain=${1//[[:cntrl:]]/?} ascii came=${2/'  ('/ (} # two blanks are around a word with nothing in it
-    plain=${plain%' '}
+    local plain=${1//[[:cntrl:]]/?} came=${2/'  ('/ (} shown ascii # two blanks are around a word with nothing in it
     came=${came%' '}
-    ascii=${plain//[$'\x80'-$'\xff']/?}
-    [[ $came == "$plain" || $came == "$plain ("*")" || $came == "$ascii" || $came == "$ascii ("*")" ]]
+    for shown in '?' '??' $'\xc2?'; do
+        shown=${plain//$'\xc2'[$'\x80'-$'\x9f']/$shown}
+        shown=${shown%' '}
+        ascii=${shown//[$'\x80'-$'\xff']/?}
+        [[ $came != "$shown" && $came != "$shown ("*")" && $came != "$ascii" && $came != "$ascii ("*")" ]] || return 0
+    done
+    return 1
 }
 
 # Two megabytes, always the same, all 256 values in each stretch of 256, and no period: a copy is a byte shifted.

@@ -41,9 +41,8 @@ songs() {
     setting
     for length in 0 1 15 16 17 4096 4097 65535; do
         some "$length" >song
-        works seal --key k --nonce n --in song --out card
+        works_silently seal --key k --nonce n --in song --out card
         is_card card "$length"
-        is 'standard output, beside --out' '' "$(hex_of "$out")"
         works open --key k --in card --out opened
         same song opened
         works seal --key k --nonce n <song
@@ -59,7 +58,7 @@ pipes() {
     setting
     some 65535 >song
     "${cards[@]}" seal --key k --nonce n <song 2>sealing | "${cards[@]}" open --key k 2>opening >opened
-    is 'the last lines' 'done done' "$(<sealing) $(<opening)"
+    is 'standard error of both' '' "$(cat sealing opening)"
     same song opened
     # What comes in pieces is one text.
     { head -c 5000 song && sleep 0.1 && tail -c +5001 song || true; } | works seal --key k --nonce n --out card
@@ -257,7 +256,7 @@ hex_files() {
         printf %b "$wrong" >bad.hex
         refused 105 '--key-hex bad.hex' seal --key-hex bad.hex --nonce n --in song --out new
     done
-    refused 105 '*' digest --in-hex - --out new <bad.hex
+    refused 105 'standard input' digest --in-hex - --out new <bad.hex
     not_hex_in_each_option
     : >empty
     works seal --key k --nonce n --in-hex empty --out card
@@ -267,6 +266,39 @@ hex_files() {
     works open --key k --in card --out-hex opened.hex
     is 'no bytes in hex' '' "$(cat opened.hex)"
     all_in_hex
+}
+
+# So many line ends.
+blanks() { head -c "$1" /dev/zero | tr '\0' '\n'; }
+
+# left_of FILE ARGUMENT..: refused as no hex, with this file as standard input; says how much of it was not read.
+left_of() {
+    local file=$1
+    shift
+    { refused 105 'standard input' "$@" && wc -c; } <"$file"
+}
+
+# Reading ends at the first byte that is no hex and where there is too much; endless ones show that by an end.
+endless_hex() {
+    local size=300000000 left
+    setting
+    truncate -s $size zeros # no disk is used for this
+    echo 00 | dd of=zeros conv=notrunc 2>/dev/null
+    left=$(left_of zeros digest --in-hex - --out new)
+    [ "$left" -gt $((size - 1048576)) ] || fail "most of $size bytes not read" "$left are left"
+    refused 105 '--in-hex /dev/zero' digest --in-hex /dev/zero --out new
+    refused 105 '--key-hex /dev/zero' seal --key-hex /dev/zero --nonce n --in song --out new
+    refused 105 'standard input' seal --key k --nonce n --in-hex - --out new < <(yes zzzzzzz)
+    refused 4 'standard input' seal --key k --nonce n --in-hex - --out new < <(yes 00)
+    refused 4 'standard input' digest --in-hex - --out new < <(yes 0)
+    refused 1 'standard input' seal --key-hex - --nonce n --in song --out new < <(yes 00)
+    rm zeros
+    # 16,777,216 characters are allowed.
+    { printf 6162 && blanks 16777210 && printf 63; } >blank
+    digest_is "$(printf abc | b2sum | cut -d ' ' -f 1)" --in-hex blank
+    echo >>blank
+    refused 105 '--in-hex blank' digest --in-hex blank --out new
+    refused 105 'standard input' seal --key k --nonce n --in-hex - --out new < <(yes '')
 }
 
 not_hex_in_each_option() {

@@ -3,15 +3,18 @@
 use crate::inputs;
 use crate::names;
 use crate::options;
+use crate::options::Opt;
 use crate::options::Options;
 use crate::outputs;
-use crate::put;
+use crate::outputs::Kind;
+use crate::outputs::Target;
 use crate::refusal;
 use crate::refusal::Refusal;
 use crate::text;
 use crate::text::Text;
 use drawer::Drawer;
 use drawer_file::Recalled;
+use libc::STDOUT_FILENO;
 use words::first;
 
 // What was refused, or the drawer, and the file beside it, open for its next state.
@@ -21,16 +24,68 @@ pub(crate) struct Held {
     pub fd: i32,
 }
 
+// A reader's number, or what was refused.
+struct Chosen {
+    refusal: Refusal,
+    reader: u32,
+}
+
 // Makes a drawer file.
 pub(crate) fn start(o: Options) -> Refusal {
-    let reader = (inputs::number(o, options::READER).value % 4294967296) as u32;
-    let d = drawer::start(reader, inputs::number(o, options::COUNT).value);
-    let file = drawer_file::keep(d);
-    let r = outputs::claim_name(o, options::DRAWER);
+    let chosen = reader_of(o);
+    let r = chosen.refusal;
     if r.number != 0 {
         return r;
     }
-    outputs::write_file(o, options::DRAWER, &file)
+    let d = drawer::start(chosen.reader, inputs::number(o, Opt::Count).value);
+    let c = outputs::claim_name(o, Opt::Drawer, Kind::Text);
+    started(c, o, d)
+}
+
+// The number that is given, or one from the system's random source.
+fn reader_of(o: Options) -> Chosen {
+    let mut random = [0u8; 4];
+    if options::given(o, Opt::Reader) {
+        return Chosen {
+            refusal: refusal::none(),
+            reader: (inputs::number(o, Opt::Reader).value % 4294967296) as u32,
+        };
+    }
+    let bad = libc::getentropy(&mut random) != 0;
+    Chosen {
+        refusal: no_random(bad),
+        reader: (words::load(&random, 0, 4).lo % 4294967296) as u32,
+    }
+}
+
+fn no_random(bad: bool) -> Refusal {
+    if bad {
+        return refusal::about(Opt::Reader, refusal::NOT_READ, refusal::RANDOM);
+    }
+    refusal::none()
+}
+
+// The name is taken; a number that nobody gave is said before the drawer is there.
+fn started(c: Target, o: Options, d: Drawer) -> Refusal {
+    let bad = c.refusal;
+    if bad.number != 0 {
+        return bad;
+    }
+    let file = drawer_file::keep(d);
+    let r = reader_said(o, d.reader);
+    if r.number != 0 {
+        outputs::release(o, Opt::Drawer, c);
+        return r;
+    }
+    outputs::write_file(o, Opt::Drawer, c, &file)
+}
+
+fn reader_said(o: Options, reader: u32) -> Refusal {
+    if options::given(o, Opt::Reader) {
+        return refusal::none();
+    }
+    let line = text::number(b"reader ", reader as u64, b"\n");
+    outputs::printed(io::write_all(STDOUT_FILENO, first(&line.bytes, line.len)))
 }
 
 // Draws a number and writes it.
@@ -47,44 +102,55 @@ pub(crate) fn draw(o: Options) -> Refusal {
         options::printed(o),
         h,
         next,
-        spent(o, drawn.number),
+        Kind::Text,
+        spent(drawn.number),
         &number,
     )
 }
 
 // What the number of a draw refuses.
-pub(crate) fn spent(o: Options, number: u32) -> Refusal {
+pub(crate) fn spent(number: u32) -> Refusal {
     if number == 0 {
         return refusal::none();
     }
-    refusal::about(o, options::DRAWER, number, refusal::NO_REASON)
+    refusal::about(Opt::Drawer, number, refusal::NO_REASON)
 }
 
 // Keeps the next state, and then writes the output. Where something was refused, the drawer stays as it was.
-pub(crate) fn spend(o: Options, h: Held, next: Drawer, bad: Refusal, bytes: &[u8]) -> Refusal {
-    let taken = outputs::claim(bad, o);
+pub(crate) fn spend(
+    o: Options,
+    h: Held,
+    next: Drawer,
+    kind: Kind,
+    bad: Refusal,
+    bytes: &[u8],
+) -> Refusal {
+    let c = outputs::claim(bad, o, kind);
+    let taken = c.refusal;
     if taken.number != 0 {
         let_go(o, h.fd);
         return taken;
     }
     let kept = keep(o, h.fd, next);
     if kept.number != 0 {
-        outputs::release(o);
+        outputs::release(o, Opt::Out, c);
         return kept;
     }
-    outputs::write(kept, o, bytes)
+    outputs::write(c, o, bytes)
 }
 
-// Takes the drawer: nobody else can until it is kept or let go.
+// Takes the drawer: nobody else can until it is kept or let go. A new state would take a symbolic link's place and
+// leave the old one where it leads, to be drawn from again.
 pub(crate) fn take(o: Options) -> Held {
-    if is_link(options::word_of(o, options::DRAWER)) {
-        return not_held(refusal::about(o, options::DRAWER, refusal::DAMAGED, refusal::LINK));
+    let name = options::word_of(o, Opt::Drawer);
+    if outputs::kind_of(names::status(name, false)) == refusal::LINK {
+        return not_held(refusal::about(Opt::Drawer, refusal::DAMAGED, refusal::LINK));
     }
     let fd = names::create(beside(o));
     if fd < 0 {
-        return not_held(not_locked(o));
+        return not_held(not_locked());
     }
-    let h = opened(o, fd);
+    let h = opened(name, fd);
     let bad = h.refusal;
     if bad.number != 0 {
         let_go(o, fd);
@@ -100,26 +166,26 @@ fn not_held(r: Refusal) -> Held {
     }
 }
 
-fn not_locked(o: Options) -> Refusal {
+fn not_locked() -> Refusal {
     let e = os::errno();
     if e == libc::EEXIST {
-        return refusal::about(o, options::DRAWER, refusal::IN_USE, refusal::BESIDE);
+        return refusal::about(Opt::Drawer, refusal::IN_USE, refusal::DRAWS);
     }
     if e == libc::ENOENT || e == libc::ENOTDIR {
-        return refusal::by_system(o, options::DRAWER, refusal::NOT_READ);
+        return refusal::by_system(Opt::Drawer, refusal::NOT_READ);
     }
-    refusal::by_system(o, options::DRAWER, refusal::NOT_WRITTEN)
+    refusal::by_system(Opt::Drawer, refusal::NOT_WRITTEN)
 }
 
-fn opened(o: Options, fd: i32) -> Held {
-    let from = names::open_update(options::word_of(o, options::DRAWER));
+fn opened(name: Text, fd: i32) -> Held {
+    let from = names::open_update(name);
     if from < 0 {
-        return not_held(refusal::by_system(o, options::DRAWER, refusal::NOT_READ));
+        return not_held(not_opened(name, refusal::error()));
     }
     let k = kept_in(from);
     libc::close(from);
     if !k.good {
-        return not_held(refusal::about(o, options::DRAWER, refusal::DAMAGED, refusal::NO_REASON));
+        return not_held(refusal::about(Opt::Drawer, refusal::DAMAGED, refusal::NO_REASON));
     }
     let d = k.drawer;
     Held {
@@ -127,6 +193,18 @@ fn opened(o: Options, fd: i32) -> Held {
         drawer: d,
         fd: fd,
     }
+}
+
+// A drawer that can be read, as another user's, cannot be written.
+fn not_opened(name: Text, error: usize) -> Refusal {
+    if outputs::kind_of(names::status(name, true)) == refusal::NO_REASON {
+        let fd = names::open_read(name);
+        if fd >= 0 {
+            libc::close(fd);
+            return refusal::about(Opt::Drawer, refusal::NOT_WRITTEN, error);
+        }
+    }
+    refusal::about(Opt::Drawer, refusal::NOT_READ, error)
 }
 
 // The drawer in an open file. What has no places, as a pipe, is none, and reading it could take forever.
@@ -145,27 +223,34 @@ fn read_start(fd: i32, room: &mut [u8]) -> usize {
 
 // The name of the file that keeps the others out.
 pub(crate) fn beside(o: Options) -> Text {
-    text::and(options::word_of(o, options::DRAWER), b".next")
+    names::beside(options::word_of(o, Opt::Drawer), b".next")
 }
 
-// Puts the next state in the drawer's place and waits until that is on the disk.
+// Puts the next state in the drawer's place, with its rights, and waits until that is on the disk.
 fn keep(o: Options, fd: i32, next: Drawer) -> Refusal {
+    let name = options::word_of(o, Opt::Drawer);
     let file = drawer_file::keep(next);
-    let r = outputs::filled(o, options::DRAWER, fd, &file);
-    let s = outputs::put_in_place(r, o, options::DRAWER, beside(o));
+    let r = outputs::filled(
+        o,
+        Opt::Drawer,
+        fd,
+        outputs::with_rights(name, true, true),
+        &file,
+    );
+    let s = outputs::put_in_place(r, Opt::Drawer, beside(o), name);
     if s.number != 0 {
         let_go(o, fd);
         return s;
     }
     libc::close(fd);
-    renamed(o)
+    renamed(name)
 }
 
 // Waits until the renaming is on the disk. A file system that has no such call says EINVAL.
-fn renamed(o: Options) -> Refusal {
-    let fd = names::open_read(folder(options::word_of(o, options::DRAWER)));
+fn renamed(name: Text) -> Refusal {
+    let fd = names::open_read(names::folder(name));
     if fd < 0 {
-        return refusal::by_system(o, options::DRAWER, refusal::NOT_WRITTEN);
+        return refusal::by_system(Opt::Drawer, refusal::NOT_WRITTEN);
     }
     let done = libc::fsync(fd);
     let e = os::errno();
@@ -173,41 +258,10 @@ fn renamed(o: Options) -> Refusal {
     if done == 0 || e == libc::EINVAL {
         return refusal::none();
     }
-    refusal::by_system(o, options::DRAWER, refusal::NOT_WRITTEN)
-}
-
-// The folder that a name lies in.
-fn folder(name: Text) -> Text {
-    let n = folder_end(first(&name.bytes, name.len));
-    if n == 0 {
-        return text::of(b".");
-    }
-    text::of(first(&name.bytes, n))
-}
-
-// Where the last slash of a name ends, 0 where it has none.
-fn folder_end(name: &[u8]) -> usize {
-    let mut i = name.len();
-    while i > 0 {
-        if name[i - 1] == b'/' {
-            return i;
-        }
-        i -= 1;
-    }
-    0
+    refusal::by_system(Opt::Drawer, refusal::NOT_WRITTEN)
 }
 
 fn let_go(o: Options, fd: i32) {
     libc::close(fd);
     names::unlink(beside(o));
-}
-
-// Whether the name is that of a symbolic link: a new state would take the link's place and leave the old one where it
-// leads, to be drawn from again.
-fn is_link(name: Text) -> bool {
-    let mut path = io::buffer();
-    put(&mut path, 0, first(&name.bytes, name.len));
-    path[4095] = 0;
-    let mut leads = [0u8; 1];
-    libc::readlink(&path, &mut leads) >= 0
 }

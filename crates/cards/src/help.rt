@@ -1,143 +1,193 @@
-// help: what each command does, with examples that work as they stand.
+// help: what each command does, with examples that work as they stand, behind those of `cards help`.
+use crate::commands;
+use crate::commands::Command;
 use crate::options;
-use crate::refusal;
+use crate::outputs;
 use crate::refusal::Refusal;
-use crate::text;
-use crate::text::Text;
+use libc::STDERR_FILENO;
 use libc::STDOUT_FILENO;
-use words::find;
 use words::first;
 
-// Before the bar of each line stand the numbers of the commands whose help has it; help's own number is 8.
-const LINES: [u8; 4928] =
-    *b"8|cards seals and opens cards, enciphers wide blocks, takes digests and draws nonces.
-8|
-8|  cards seal      seals a text, and writes a card
-8|  cards open      opens a card, if its tag is right
-8|  cards encipher  enciphers a wide block, as a recording
-8|  cards decipher  deciphers it
-8|  cards digest    takes a BLAKE2b digest
-8|  cards start     makes a drawer of nonces
-8|  cards draw      takes a nonce from it
-8|  cards help COMMAND  tells more, with examples
-8|
-8|There is no exit status: it is always 0. The last line on standard error is `done`, or
-8|`refused NUMBER WORDS: INPUT`. A script tests that line, and takes anything but `done`,
-8|and no line at all, for a failure:
-8|  last=$(cards open --key song.key --in song.card --out song.txt 2>&1)
-8|  [ \"$last\" = done ] || echo \"the card was refused: $last\"
-8|A refusal writes no output file. What the numbers mean and how the files are laid out:
-8|man cards.
-8|
-8|Examples:
-8|    head -c 16 /dev/urandom > song.key
-8|    printf 'Three ducks went out one day' > song.txt
-8|    cards start --drawer reader42 --reader 42
-8|    cards seal --key song.key --drawer reader42 --in song.txt --out song.card
-8|    cards open --key song.key --in song.card
-1|cards seal: seals a text of at most 65535 bytes, and writes a card 30 bytes longer.
-2|cards open: writes the text of a card. Where its tag is wrong, as after a bit has
-2|flipped or under another key, no byte of text is written, and it is refused with 7.
-12|  --key FILE        the key, 16 bytes; or else
-12|  --book FILE       this term's key book, and
-12|  --last-book FILE  last term's, which may be left out, and
-12|  --class NUMBER    the class whose key it is
-1|  --drawer FILE     the drawer that the nonce is drawn from (cards help start); or
-1|  --nonce FILE      the nonce, 12 bytes, never used before under this key
-12|  --data FILE       associated data, without which the card does not open; or
-12|  --label WORDS     the words themselves; with neither it is empty
-3|cards encipher: enciphers a block of 33 to 1048608 bytes, and writes a wide file: the
-3|iv and the block, 48 bytes more. It has no tag: what was changed on the way is not refused.
-4|cards decipher: writes the block of a wide file (cards help encipher).
-34|  --key FILE        the key, 128 bytes
-3|  --drawer FILE     the drawer that the iv is drawn from (cards help start); or
-3|  --iv FILE         the iv, 48 bytes, never used before under this key
-5|cards digest: the BLAKE2b digest of at most 1048576 bytes, as a line of hex where no
-5|--out is given.
-5|  --key FILE        a key of at most 64 bytes; it may be left out
-5|  --length NUMBER   1 to 64 bytes; 64 where it is left out
-12345|  --in FILE         standard input where it is left out, or where FILE is -
-6|cards draw: takes the next nonce from a drawer file, and prints it as a line of hex
-6|where no --out is given. The drawer's next state is on the disk before the nonce is written.
-6|While it is written there is FILE.next beside it; if that stays behind after a crash, remove
-6|it once no cards runs.
-6|  --drawer FILE     the drawer (cards help start)
-123456|  --out FILE        standard output where it is left out, or where FILE is -
-123456|  --force           replaces the file that --out names
-123456|A file in hex is named by the same option with -hex behind it, as --out-hex FILE.
-123456|
-123456|Examples:
-12|    head -c 16 /dev/urandom > song.key
-1|    printf 'Three ducks went out one day' > song.txt
-34|    head -c 128 /dev/urandom > wide.key
-34|    head -c 100000 /dev/urandom > recording
-12346|    cards start --drawer reader42 --reader 42
-1|    cards seal --key song.key --drawer reader42 --label 'song 1' --in song.txt --out song.card
-1|    cards seal --key song.key --drawer reader42 --in song.txt --out-hex -
-2|    echo 'Three ducks' | cards seal --key song.key --drawer reader42 --out song.card
-2|    cards open --key song.key --in song.card
-2|    cards open --key song.key --in song.card --out song.txt
-34|    cards encipher --key wide.key --drawer reader42 --in recording --out recording.wide
-4|    cards decipher --key wide.key --in recording.wide --out recording.again
-4|    cmp recording recording.again
-5|    printf abc | cards digest
-5|    printf abc > song.txt
-5|    cards digest --length 32 --in song.txt
-5|    b2sum -l 256 song.txt
-6|    cards draw --drawer reader42
-6|    cards draw --drawer reader42 --out nonce
-7|cards start: makes a drawer of nonces in a file, and never replaces one.
-7|  --drawer FILE     the file
-7|  --reader NUMBER   the reader's number, below 2^32: no two drawers under one key may
-7|                    have the same
-7|  --count NUMBER    the first count to be drawn; 0 where it is left out
-7|Never copy a drawer file and never bring an old one back: it would hand out the same
-7|numbers again.
-7|
-7|Examples:
-7|    cards start --drawer reader42 --reader 42
-7|    cards start --drawer reader43 --reader 43 --count 1000
+const VERSION: [u8; 12] = *b"cards 0.1.0
 ";
 
-// `cards help`, or `cards help COMMAND`.
-pub(crate) fn help() -> Refusal {
-    if os::arg_count() > 3 {
-        return refusal::of_word(3, refusal::NO_SUCH_OPTION);
-    }
-    if os::arg_count() < 3 {
-        return said(options::HELP);
-    }
-    let command = options::command_of(options::word(2));
-    if command == 0 {
-        return refusal::of_word(2, refusal::NO_COMMAND);
-    }
-    said(command)
+const OVERVIEW: [u8; 102] =
+    *b"cards seals and opens cards, enciphers wide blocks, takes digests, draws nonces and makes
+key books.
+
+";
+
+const STATUS: [u8; 787] = *b"
+The exit status is 0 exactly if all was done. Otherwise it is the number of the refusal, and
+the last line on standard error says what was refused:
+    cards open --key song.key --in song.card --out song.txt || echo 'the card was refused'
+A refusal writes no output file. man cards has the numbers, and how the files are laid out.
+
+Examples:
+    (umask 077; set -C; head -c 16 /dev/urandom > song.key; head -c 128 /dev/urandom > wide.key)
+    (set -C; printf 'Three ducks went out one day' > song.txt)
+    cards start --drawer songs.drawer
+    cards seal --key song.key --drawer songs.drawer --in song.txt --out song.card
+    cards open --key song.key --in song.card
+The first line makes keys that nobody else can read, and replaces none. The examples of the
+commands go on from there.
+";
+
+const TAIL: [u8; 121] =
+    *b"A file in hex is named by the same option with -hex behind it, as --out-hex FILE.
+
+Examples, behind those of cards help:
+";
+
+const SEAL: [u8; 175] =
+    *b"cards seal: seals a text of at most 65535 bytes, and writes a card 30 bytes longer. It wants
+a key, by --key or by --book and --class, and a nonce, by --drawer or by --nonce.
+";
+
+const SEAL_EXAMPLES: [u8; 230] = *b"    (set -C; printf 'One duck came home' > home.txt)
+    cards seal --key song.key --drawer songs.drawer --label 'song 2' --in home.txt --out home.card
+    cards seal --key song.key --drawer songs.drawer --in home.txt --out-hex -
+";
+
+const OPEN: [u8; 166] =
+    *b"cards open: writes the text of a card. Where its tag is wrong, as after a bit has flipped or
+under another key, no byte of text is written, and it is refused with 7.
+";
+
+const OPEN_EXAMPLES: [u8; 188] =
+    *b"    echo 'Two ducks' | cards seal --key song.key --drawer songs.drawer --out two.card
+    cards open --key song.key --in two.card
+    cards open --key song.key --in two.card --out two.txt
+";
+
+const CHECK: [u8; 80] =
+    *b"cards check: opens a card and writes nothing: the exit status is 0 if it opens.
+";
+
+const CHECK_EXAMPLES: [u8; 153] =
+    *b"    echo 'Four ducks' | cards seal --key song.key --drawer songs.drawer --out four.card
+    cards check --key song.key --in four.card && echo 'it opens'
+";
+
+const ENCIPHER: [u8; 178] =
+    *b"cards encipher: enciphers a block of 33 to 1048608 bytes, and writes a wide file: the iv and
+the block, 48 bytes more. It has no tag: what was changed on the way is not refused.
+";
+
+const ENCIPHER_EXAMPLES: [u8; 146] = *b"    (set -C; head -c 100000 /dev/urandom > recording)
+    cards encipher --key wide.key --drawer songs.drawer --in recording --out recording.wide
+";
+
+const DECIPHER: [u8; 71] = *b"cards decipher: writes the block of a wide file (cards help encipher).
+";
+
+const DECIPHER_EXAMPLES: [u8; 177] =
+    *b"    printf '%0100d' 7 | cards encipher --key wide.key --drawer songs.drawer --out seven.wide
+    cards decipher --key wide.key --in seven.wide --out seven.txt
+    cat seven.txt
+";
+
+const DIGEST: [u8; 98] =
+    *b"cards digest: the BLAKE2b digest of at most 1048576 bytes, as a line of hex if no --out is
+given.
+";
+
+const DIGEST_EXAMPLES: [u8; 132] = *b"    printf abc | cards digest
+    (set -C; printf abc > abc.txt)
+    cards digest --length 32 --in abc.txt
+    b2sum -l 256 abc.txt
+";
+
+const START: [u8; 279] =
+    *b"cards start: makes a drawer of nonces in a file, and never replaces one. Without --reader it
+takes a random number and says which. No two drawers under one key may have the same.
+Never copy a drawer file and never bring an old one back: it would hand out the same numbers
+again.
+";
+
+const START_EXAMPLES: [u8; 89] = *b"    cards start --drawer other.drawer
+    cards start --drawer later.drawer --count 1000
+";
+
+const DRAW: [u8; 290] =
+    *b"cards draw: takes the next nonce from a drawer file, and prints it as a line of hex if no
+--out is given. The drawer's next state is on the disk before the nonce is written. While it
+is written there is FILE.next beside it; if that stays behind after a crash, remove it once
+no cards runs.
+";
+
+const DRAW_EXAMPLES: [u8; 86] = *b"    cards draw --drawer songs.drawer
+    cards draw --drawer songs.drawer --out nonce
+";
+
+const SHOW: [u8; 92] =
+    *b"cards show: prints what a drawer holds, or the parts of a card, for which no key is needed.
+";
+
+const SHOW_EXAMPLES: [u8; 122] = *b"    cards show --drawer songs.drawer
+    echo 'Five ducks' | cards seal --key song.key --drawer songs.drawer | cards show
+";
+
+const BOOK: [u8; 147] =
+    *b"cards book: makes a key book of entries: for each a class number and its key, 32 digits of
+hex. Class numbers rise. Nobody else can read the book.
+";
+
+const BOOK_EXAMPLES: [u8; 176] =
+    *b"    echo \"7 $(od -An -v -tx1 song.key | tr -d ' ')\" | cards book --out this-term
+    cards seal --book this-term --class 7 --drawer songs.drawer --in song.txt --out seven.card
+";
+
+const CLASSES: [u8; 77] =
+    *b"cards classes: prints the class numbers of a key book, and none of its keys.
+";
+
+const CLASSES_EXAMPLES: [u8; 116] =
+    *b"    echo \"8 $(od -An -v -tx1 song.key | tr -d ' ')\" | cards book --out next-term
+    cards classes --book next-term
+";
+
+// `cards help COMMAND`, or the overview.
+pub(crate) fn of(command: Command) -> Refusal {
+    outputs::printed(written(command))
 }
 
-fn said(command: usize) -> Refusal {
-    let t = help_of(command);
-    if io::write_all(STDOUT_FILENO, first(&t.bytes, t.len)) {
-        return refusal::none();
+// `cards` alone is refused, but whoever types it wants to know what there is.
+pub(crate) fn without_command(words: usize) {
+    if words < 2 {
+        overview(STDERR_FILENO);
     }
-    refusal::by_system(options::none(), options::OUT, refusal::NOT_WRITTEN)
 }
 
-fn help_of(command: usize) -> Text {
-    lines_with(&LINES, b'0' + (command % 10) as u8)
+fn written(command: Command) -> bool {
+    match command {
+        Command::Seal => page(command, &SEAL, &SEAL_EXAMPLES),
+        Command::Open => page(command, &OPEN, &OPEN_EXAMPLES),
+        Command::Check => page(command, &CHECK, &CHECK_EXAMPLES),
+        Command::Encipher => page(command, &ENCIPHER, &ENCIPHER_EXAMPLES),
+        Command::Decipher => page(command, &DECIPHER, &DECIPHER_EXAMPLES),
+        Command::Digest => page(command, &DIGEST, &DIGEST_EXAMPLES),
+        Command::Start => page(command, &START, &START_EXAMPLES),
+        Command::Draw => page(command, &DRAW, &DRAW_EXAMPLES),
+        Command::Show => page(command, &SHOW, &SHOW_EXAMPLES),
+        Command::Book => page(command, &BOOK, &BOOK_EXAMPLES),
+        Command::Classes => page(command, &CLASSES, &CLASSES_EXAMPLES),
+        Command::Help => overview(STDOUT_FILENO),
+        Command::Version => io::write_all(STDOUT_FILENO, &VERSION),
+    }
 }
 
-// The lines that have the digit before their bar.
-fn lines_with(lines: &[u8], digit: u8) -> Text {
-    let mut t = text::of(b"");
-    let mut i = 0;
-    while i < lines.len() {
-        let end = find(lines, i, lines.len(), b'\n');
-        let bar = find(lines, i, end, b'|');
-        if bar < end && find(lines, i, bar, digit) < bar {
-            t = text::and(t, &lines[bar + 1..end]);
-            t = text::and(t, b"\n");
-        }
-        i = end + 1;
-    }
-    t
+fn overview(fd: i32) -> bool {
+    let commands = commands::lines();
+    io::write_all(fd, &OVERVIEW)
+        && io::write_all(fd, first(&commands.bytes, commands.len))
+        && io::write_all(fd, &STATUS)
+}
+
+fn page(command: Command, about: &[u8], examples: &[u8]) -> bool {
+    let options = options::lines(command);
+    io::write_all(STDOUT_FILENO, about)
+        && io::write_all(STDOUT_FILENO, first(&options.bytes, options.len))
+        && io::write_all(STDOUT_FILENO, &TAIL)
+        && io::write_all(STDOUT_FILENO, examples)
 }

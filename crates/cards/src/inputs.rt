@@ -1,12 +1,13 @@
 // Inputs: files and standard input, raw or in hex, and what stands on the command line itself.
 use crate::names;
 use crate::options;
+use crate::options::Opt;
 use crate::options::Options;
 use crate::refusal;
 use crate::refusal::Refusal;
-use crate::text;
 use decimal::Decimal;
 use hex::Hex;
+use libc::STDERR_FILENO;
 use libc::STDIN_FILENO;
 use words::first;
 
@@ -16,7 +17,7 @@ pub(crate) struct Got {
     pub len: usize,
 }
 
-// What a file gave: the error number or 0, whether it was not hex, and how many bytes.
+// What a file gave: what is wrong with it as hex, or the error number, or 0; and how many bytes.
 struct Taken {
     error: usize,
     not_hex: bool,
@@ -34,44 +35,50 @@ pub(crate) fn refused(r: Refusal) -> Got {
     Got { refusal: r, len: 0 }
 }
 
-// Whether the option's word is `-`, which stands for a standard stream.
-pub(crate) fn is_dash(o: Options, option: usize) -> bool {
-    option <= options::OUT && text::is(options::word_of(o, option), b"-")
-}
-
 // The option's word as a number.
-pub(crate) fn number(o: Options, option: usize) -> Decimal {
+pub(crate) fn number(o: Options, option: Opt) -> Decimal {
     let w = options::word_of(o, option);
     decimal::number(first(&w.bytes, w.len))
 }
 
 // Reads the input that the option names, or standard input. Where something was refused before, that is handed on and
 // nothing is read.
-pub(crate) fn read(before: Refusal, o: Options, option: usize, room: &mut [u8]) -> Got {
+pub(crate) fn read(before: Refusal, o: Options, option: Opt, room: &mut [u8]) -> Got {
     if before.number != 0 {
         return refused(before);
     }
-    let standard = !options::given(o, option) || is_dash(o, option);
-    let fd = if standard {
-        STDIN_FILENO
-    } else {
-        names::open_read(options::word_of(o, option))
-    };
+    if !options::given(o, option) || options::is_dash(o, option) {
+        return read_standard(o, option, room);
+    }
+    let fd = names::open_read(options::word_of(o, option));
     if fd < 0 {
-        return refused(refusal::by_system(o, option, refusal::NOT_READ));
+        return refused(refusal::by_system(option, refusal::NOT_READ));
     }
     let t = taken_from(o, option, fd, room);
-    if !standard {
-        libc::close(fd);
+    libc::close(fd);
+    judged(option, t)
+}
+
+// Whoever sits at a terminal is told that it is read, and how that ends.
+fn read_standard(o: Options, option: Opt, room: &mut [u8]) -> Got {
+    if libc::isatty(STDIN_FILENO) == 1 {
+        io::write_all(
+            STDERR_FILENO,
+            b"cards: reading from the terminal: Ctrl-D ends it\n",
+        );
     }
-    judged(o, option, standard, t)
+    let t = taken_from(o, option, STDIN_FILENO, room);
+    if t.error == refusal::A_DIRECTORY {
+        return refused(refusal::about(option, refusal::NOT_READ, refusal::CLOSED));
+    }
+    judged(option, t)
 }
 
 // The same for an option that may be left out: the room's first bytes, as they are, then stand for the input.
 pub(crate) fn read_given(
     before: Refusal,
     o: Options,
-    option: usize,
+    option: Opt,
     otherwise: usize,
     room: &mut [u8],
 ) -> Got {
@@ -84,22 +91,17 @@ pub(crate) fn read_given(
     }
 }
 
-fn judged(o: Options, option: usize, standard: bool, t: Taken) -> Got {
-    if t.error != 0 {
-        let why = if standard && t.error == refusal::A_DIRECTORY {
-            refusal::CLOSED
-        } else {
-            t.error
-        };
-        return refused(refusal::about(o, option, refusal::NOT_READ, why));
-    }
+fn judged(option: Opt, t: Taken) -> Got {
     if t.not_hex {
-        return refused(refusal::about(o, option, refusal::NOT_HEX, refusal::NO_REASON));
+        return refused(refusal::about(option, refusal::NOT_HEX, t.error));
+    }
+    if t.error != 0 {
+        return refused(refusal::about(option, refusal::NOT_READ, t.error));
     }
     found(t.len)
 }
 
-fn taken_from(o: Options, option: usize, fd: i32, room: &mut [u8]) -> Taken {
+fn taken_from(o: Options, option: Opt, fd: i32, room: &mut [u8]) -> Taken {
     if options::in_hex(o, option) {
         return hex_from(fd, room);
     }
@@ -122,36 +124,36 @@ fn raw_from(fd: i32, room: &mut [u8]) -> Taken {
 // The end of the input, or the error that a read answered.
 fn ended(got: isize, not_hex: bool, len: usize) -> Taken {
     if got < 0 {
-        return Taken {
-            error: refusal::error(),
-            not_hex: not_hex,
-            len: len,
-        };
+        return gave(refusal::error(), false, len);
     }
+    gave(refusal::NO_REASON, not_hex, len)
+}
+
+fn gave(error: usize, not_hex: bool, len: usize) -> Taken {
     Taken {
-        error: 0,
+        error: error,
         not_hex: not_hex,
         len: len,
     }
 }
 
-// Reads on to the end even where the room is full, since all of it must be hex.
+// Reads until the first byte that is not hex, or until the room is full. Blanks fill no room, so the characters are
+// counted too.
 fn hex_from(fd: i32, room: &mut [u8]) -> Taken {
     let mut h = hex::begin();
     let mut chunk = io::large_buffer();
-    let mut fuel: u64 = 18446744073709551615;
-    while fuel > 0 {
+    let mut left: usize = 16777216;
+    while left > 0 {
         let got = libc::read(fd, &mut chunk);
         let n = io::count(got, &chunk);
         if n == 0 {
-            return ended(got, !whole(h), h.len);
+            return ended(got, !h.good || h.half, h.len);
         }
         h = hex::take_in(h, &chunk[..n], room);
-        fuel -= 1;
+        if !h.good || h.len == room.len() {
+            return gave(refusal::NO_REASON, !h.good, h.len);
+        }
+        left = if n < left { left - n } else { 0 };
     }
-    ended(0, true, 0)
-}
-
-fn whole(h: Hex) -> bool {
-    h.good && !h.half
+    gave(refusal::TOO_MUCH_HEX, true, 0)
 }

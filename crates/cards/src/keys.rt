@@ -2,6 +2,7 @@
 use crate::inputs;
 use crate::inputs::Got;
 use crate::options;
+use crate::options::Opt;
 use crate::options::Options;
 use crate::put;
 use crate::refusal;
@@ -11,8 +12,8 @@ use words::first;
 
 // Reads the key into room.
 pub(crate) fn read(o: Options, room: &mut [u8]) -> Got {
-    if options::given(o, options::KEY) {
-        return inputs::read(refusal::none(), o, options::KEY, room);
+    if options::given(o, Opt::Key) {
+        return inputs::read(refusal::none(), o, Opt::Key, room);
     }
     read_books(o, room)
 }
@@ -21,8 +22,8 @@ pub(crate) fn read(o: Options, room: &mut [u8]) -> Got {
 fn read_books(o: Options, room: &mut [u8]) -> Got {
     let mut this_term = rooms::book();
     let mut last_term = rooms::book();
-    let t = inputs::read(refusal::none(), o, options::BOOK, &mut this_term);
-    let l = inputs::read_given(t.refusal, o, options::LAST_BOOK, 2, &mut last_term);
+    let t = inputs::read(refusal::none(), o, Opt::Book, &mut this_term);
+    let l = inputs::read_given(t.refusal, o, Opt::LastBook, 2, &mut last_term);
     looked_up(
         l.refusal,
         o,
@@ -42,12 +43,11 @@ fn looked_up<'a>(
     if before.number != 0 {
         return inputs::refused(before);
     }
-    let class = (inputs::number(o, options::CLASS).value % 65536) as u16;
+    let class = (inputs::number(o, Opt::Class).value % 65536) as u16;
     match books::number(this_term, last_term, class) {
         0 => inputs::found(put(room, 0, books::part(this_term, last_term, class))),
-        11 => inputs::refused(refusal::about(o, options::CLASS, 11, refusal::NO_REASON)),
+        11 => inputs::refused(refusal::about(Opt::Class, 11, refusal::NO_REASON)),
         number => inputs::refused(refusal::about(
-            o,
             bad_book(this_term, class),
             number,
             refusal::NO_REASON,
@@ -56,9 +56,9 @@ fn looked_up<'a>(
 }
 
 // Of two books of which one is badly formed, this term's if it is that one: beside an empty book it alone is judged.
-fn bad_book(this_term: &[u8], class: u16) -> usize {
+fn bad_book(this_term: &[u8], class: u16) -> Opt {
     if books::number(this_term, &[0, 0], class) == 10 {
-        return options::BOOK;
+        return Opt::Book;
     }
-    options::LAST_BOOK
+    Opt::LastBook
 }

@@ -1,136 +1,234 @@
-// The command line: a command, and options that each name a file, a number or words.
-use crate::refusal;
-use crate::refusal::Refusal;
-use crate::tables;
+// The options, the table that names them, and which of them are given.
+use crate::commands;
+use crate::commands::Command;
 use crate::text;
 use crate::text::Text;
-use words::first;
+ghost use Prim.Native.Nat.{_<_};
 
-pub(crate) const SEAL: usize = 1;
+pub(crate) enum Opt {
+    Key,
+    Book,
+    LastBook,
+    Nonce,
+    Iv,
+    Data,
+    In,
+    Out,
+    Label,
+    Class,
+    Drawer,
+    Reader,
+    Count,
+    Length,
+    Force,
+    Verbose,
+}
 
-pub(crate) const OPEN: usize = 2;
+// Names, what stands behind them and sentences are filled with blanks. Each command has a column in `taken`: the option
+// must be given (!), may be given (x), or is not taken (.).
+struct OptionRow {
+    option: Opt,
+    name: [u8; 9],
+    value: [u8; 9],
+    hex: bool,
+    taken: [u8; 12],
+    help: [u8; 96],
+}
 
-pub(crate) const ENCIPHER: usize = 3;
+// The columns: seal open check encipher decipher digest start draw show book classes help.
+const OPTIONS: [OptionRow; 16] = [
+    OptionRow {
+        option: Opt::Key,
+        name: *b"key      ",
+        value: *b"FILE     ",
+        hex: true,
+        taken: *b"xxx!!x......",
+        help: *b"the key: 16 bytes for a card, 128 for a wide block, 1 to 64 for a digest                        ",
+    },
+    OptionRow {
+        option: Opt::Book,
+        name: *b"book     ",
+        value: *b"FILE     ",
+        hex: true,
+        taken: *b"xxx.......!.",
+        help: *b"this term's key book                                                                            ",
+    },
+    OptionRow {
+        option: Opt::LastBook,
+        name: *b"last-book",
+        value: *b"FILE     ",
+        hex: true,
+        taken: *b"xxx.........",
+        help: *b"last term's, which may be left out                                                              ",
+    },
+    OptionRow {
+        option: Opt::Nonce,
+        name: *b"nonce    ",
+        value: *b"FILE     ",
+        hex: true,
+        taken: *b"x...........",
+        help: *b"the nonce, 12 bytes, never used before under this key                                           ",
+    },
+    OptionRow {
+        option: Opt::Iv,
+        name: *b"iv       ",
+        value: *b"FILE     ",
+        hex: true,
+        taken: *b"...x........",
+        help: *b"the iv, 48 bytes, never used before under this key                                              ",
+    },
+    OptionRow {
+        option: Opt::Data,
+        name: *b"data     ",
+        value: *b"FILE     ",
+        hex: true,
+        taken: *b"xxx.........",
+        help: *b"associated data, without which the card does not open                                           ",
+    },
+    OptionRow {
+        option: Opt::In,
+        name: *b"in       ",
+        value: *b"FILE     ",
+        hex: true,
+        taken: *b"xxxxxx..xx..",
+        help: *b"what is read; standard input if it is left out or -                                             ",
+    },
+    OptionRow {
+        option: Opt::Out,
+        name: *b"out      ",
+        value: *b"FILE     ",
+        hex: true,
+        taken: *b"xx.xxx.x.x..",
+        help: *b"where it is written; standard output if it is left out or -                                     ",
+    },
+    OptionRow {
+        option: Opt::Label,
+        name: *b"label    ",
+        value: *b"WORDS    ",
+        hex: false,
+        taken: *b"xxx.........",
+        help: *b"the words themselves as associated data                                                         ",
+    },
+    OptionRow {
+        option: Opt::Class,
+        name: *b"class    ",
+        value: *b"NUMBER   ",
+        hex: false,
+        taken: *b"xxx.........",
+        help: *b"the class whose key in the book it is                                                           ",
+    },
+    OptionRow {
+        option: Opt::Drawer,
+        name: *b"drawer   ",
+        value: *b"FILE     ",
+        hex: false,
+        taken: *b"x..x..!!x...",
+        help: *b"the drawer that nonces and ivs are drawn from (cards help start)                                ",
+    },
+    OptionRow {
+        option: Opt::Reader,
+        name: *b"reader   ",
+        value: *b"NUMBER   ",
+        hex: false,
+        taken: *b"......x.....",
+        help: *b"the reader's number, below 2^32; a random one if it is left out                                 ",
+    },
+    OptionRow {
+        option: Opt::Count,
+        name: *b"count    ",
+        value: *b"NUMBER   ",
+        hex: false,
+        taken: *b"......x.....",
+        help: *b"the first count to be drawn; 0 if it is left out                                                ",
+    },
+    OptionRow {
+        option: Opt::Length,
+        name: *b"length   ",
+        value: *b"NUMBER   ",
+        hex: false,
+        taken: *b".....x......",
+        help: *b"1 to 64 bytes; 64 if it is left out                                                             ",
+    },
+    OptionRow {
+        option: Opt::Force,
+        name: *b"force    ",
+        value: *b"         ",
+        hex: false,
+        taken: *b"xx.xxx.x.x..",
+        help: *b"replaces the file that --out names                                                              ",
+    },
+    OptionRow {
+        option: Opt::Verbose,
+        name: *b"verbose  ",
+        value: *b"         ",
+        hex: false,
+        taken: *b"xxxxxxxxxxx.",
+        help: *b"says so if all was done                                                                         ",
+    },
+];
 
-pub(crate) const DECIPHER: usize = 4;
-
-pub(crate) const DIGEST: usize = 5;
-
-pub(crate) const DRAW: usize = 6;
-
-pub(crate) const START: usize = 7;
-
-pub(crate) const HELP: usize = 8;
-
-const COMMANDS: [u8; 81] = *b"1 seal
-2 open
-3 encipher
-4 decipher
-5 digest
-6 draw
-7 start
-8 help
-8 --help
-8 -h
-";
-
-// The options; up to OUT each has a twin in hex, and `-` stands for a standard stream.
-pub(crate) const KEY: usize = 1;
-
-pub(crate) const BOOK: usize = 2;
-
-pub(crate) const LAST_BOOK: usize = 3;
-
-pub(crate) const NONCE: usize = 4;
-
-pub(crate) const IV: usize = 5;
-
-pub(crate) const DATA: usize = 6;
-
-pub(crate) const IN: usize = 7;
-
-pub(crate) const OUT: usize = 8;
-
-pub(crate) const LABEL: usize = 9;
-
-pub(crate) const CLASS: usize = 10;
-
-pub(crate) const DRAWER: usize = 11;
-
-pub(crate) const READER: usize = 12;
-
-pub(crate) const COUNT: usize = 13;
-
-pub(crate) const LENGTH: usize = 14;
-
-pub(crate) const FORCE: usize = 15;
-
-const NAMES: [u8; 151] = *b"1 --key
-2 --book
-3 --last-book
-4 --nonce
-5 --iv
-6 --data
-7 --in
-8 --out
-9 --label
-10 --class
-11 --drawer
-12 --reader
-13 --count
-14 --length
-15 --force
-";
-
-// The twins.
-const HEX_NAMES: [u8; 104] = *b"1 --key-hex
-2 --book-hex
-3 --last-book-hex
-4 --nonce-hex
-5 --iv-hex
-6 --data-hex
-7 --in-hex
-8 --out-hex
-";
-
-// For each option where its word stands on the command line, 0 where it is not given, and whether it is in hex.
+// For each option the word of the command line that has what is given, 0 if it is not given, where in that word it
+// begins, and whether it is in hex.
 pub(crate) struct Options {
     pub at: [usize; 16],
+    pub from: [usize; 16],
     pub hex: [bool; 16],
 }
 
-// What has been read of the command line: the options, the one whose word is still to come, and what was refused.
-pub(crate) struct Parsed {
-    pub options: Options,
-    pub waits: usize,
-    pub bad: Refusal,
+// The option's row in the table.
+pub(crate) fn place(option: Opt) -> usize
+    ensures { λ r. ⌜ r < 16 ⌝ }
+{
+    match option {
+        Opt::Key => 0,
+        Opt::Book => 1,
+        Opt::LastBook => 2,
+        Opt::Nonce => 3,
+        Opt::Iv => 4,
+        Opt::Data => 5,
+        Opt::In => 6,
+        Opt::Out => 7,
+        Opt::Label => 8,
+        Opt::Class => 9,
+        Opt::Drawer => 10,
+        Opt::Reader => 11,
+        Opt::Count => 12,
+        Opt::Length => 13,
+        Opt::Force => 14,
+        Opt::Verbose => 15,
+    }
 }
 
-// An option that a word names, and whether in hex; 0 for no option.
-struct Named {
-    option: usize,
-    hex: bool,
+// The option in this row; the last for a row that there is not.
+pub(crate) fn at(row: usize) -> Opt {
+    if row < 16 {
+        let r = OPTIONS[row];
+        let option = r.option;
+        return option;
+    }
+    Opt::Verbose
 }
 
-// Where the option's word stands, 0 where it is not given.
-pub(crate) fn place(o: Options, option: usize) -> usize {
+// Where the option's word stands on the command line, 0 if it is not given.
+pub(crate) fn word_place(o: Options, option: Opt) -> usize {
     let at = o.at;
-    if option < 16 { at[option] } else { 0 }
+    at[place(option)]
 }
 
-pub(crate) fn given(o: Options, option: usize) -> bool {
-    place(o, option) != 0
+pub(crate) fn given(o: Options, option: Opt) -> bool {
+    word_place(o, option) != 0
 }
 
-pub(crate) fn in_hex(o: Options, option: usize) -> bool {
+pub(crate) fn in_hex(o: Options, option: Opt) -> bool {
     let hex = o.hex;
-    if option < 16 { hex[option] } else { false }
+    hex[place(option)]
 }
 
 // No options.
 pub(crate) fn none() -> Options {
     Options {
         at: [0; 16],
+        from: [0; 16],
         hex: [false; 16],
     }
 }
@@ -138,11 +236,16 @@ pub(crate) fn none() -> Options {
 // The options, with the output in hex where no --out says otherwise.
 pub(crate) fn printed(o: Options) -> Options {
     let at = o.at;
+    let from = o.from;
     let mut hex = o.hex;
-    if at[OUT] == 0 {
-        hex[OUT] = true;
+    if at[7] == 0 {
+        hex[7] = true;
     }
-    Options { at: at, hex: hex }
+    Options {
+        at: at,
+        from: from,
+        hex: hex,
+    }
 }
 
 // The word at this place of the command line, none at 0.
@@ -155,153 +258,95 @@ pub(crate) fn word(place: usize) -> Text {
     text::of(&w[..n])
 }
 
-// The option's word.
-pub(crate) fn word_of(o: Options, option: usize) -> Text {
-    word(place(o, option))
+// The option's word, or what stands behind its = sign.
+pub(crate) fn word_of(o: Options, option: Opt) -> Text {
+    let row = place(option);
+    let at = o.at;
+    let from = o.from;
+    let w = word(at[row]);
+    text::of(text::part(&w.bytes, from[row], w.len))
 }
 
-// The first word's command, 0 for none.
-pub(crate) fn command() -> usize {
-    if os::arg_count() < 2 {
-        return 0;
-    }
-    command_of(word(1))
+// Whether a standard stream can stand for the option: those up to --out.
+pub(crate) fn is_stream(option: Opt) -> bool {
+    place(option) < 8
 }
 
-// The command of this name, 0 for none.
-pub(crate) fn command_of(w: Text) -> usize {
-    tables::number_of(&COMMANDS, first(&w.bytes, w.len)) as usize
+// Whether the option's word is `-`, which stands for a standard stream.
+pub(crate) fn is_dash(o: Options, option: Opt) -> bool {
+    is_stream(option) && text::is(word_of(o, option), b"-")
 }
 
-pub(crate) fn no_command() -> Refusal {
-    if os::arg_count() < 2 {
-        return refusal::of_word(0, refusal::NO_COMMAND);
-    }
-    refusal::of_word(1, refusal::NO_COMMAND)
-}
-
-pub(crate) fn parse(command: usize) -> Parsed {
-    let mut p = Parsed {
-        options: none(),
-        waits: 0,
-        bad: refusal::none(),
-    };
-    let n = os::arg_count();
-    let mut i = 2;
-    while i < n {
-        p = next(command, p, i);
+// The row of this name, 16 if there is none.
+pub(crate) fn row_of(name: &[u8]) -> usize {
+    let mut i = 0;
+    while i < 16 {
+        let row = OPTIONS[i];
+        let called = row.name;
+        if text::is_name(&called, name) {
+            return i;
+        }
         i += 1;
     }
-    let o = p.options;
-    let bad = p.bad;
-    if bad.number == 0 && p.waits != 0 {
-        let missing = refusal::about(o, p.waits, refusal::COMMAND_LINE, refusal::NO_VALUE);
-        return Parsed {
-            options: o,
-            waits: 0,
-            bad: missing,
-        };
-    }
-    p
+    16
 }
 
-// The word at place i, an option or what one waits for.
-fn next(command: usize, p: Parsed, i: usize) -> Parsed {
-    let bad = p.bad;
-    if bad.number != 0 {
-        return p;
-    }
-    let w = word(i);
-    if os::errno() != 0 {
-        return against(p, i, refusal::TOO_LONG);
-    }
-    if p.waits != 0 {
-        return with_word(p, p.waits, i);
-    }
-    with_option(command, p, i, option_of(w))
+// Whether the option in this row has a twin in hex.
+pub(crate) fn has_twin(row: usize) -> bool {
+    row < 16 && OPTIONS[row].hex
 }
 
-fn with_option(command: usize, p: Parsed, i: usize, named: Named) -> Parsed {
-    if !takes(command, named.option) {
-        return against(p, i, refusal::NO_SUCH_OPTION);
+// How the command takes the option in this row: !, x or a dot.
+pub(crate) fn taken(command: Command, row: usize) -> u8 {
+    if row < 16 {
+        let r = OPTIONS[row];
+        let taken = r.taken;
+        return taken[commands::place(command)];
     }
-    if given(p.options, named.option) {
-        return against(p, i, refusal::TWICE);
-    }
-    if named.option == FORCE {
-        return with_word(p, FORCE, i);
-    }
-    waiting(p, named)
+    b'.'
 }
 
-fn against(p: Parsed, i: usize, why: usize) -> Parsed {
-    let o = p.options;
-    Parsed {
-        options: o,
-        waits: 0,
-        bad: refusal::of_word(i, why),
+// Whether a word stands behind the option in this row.
+pub(crate) fn has_value(row: usize) -> bool {
+    if row < 16 {
+        let r = OPTIONS[row];
+        let value = r.value;
+        return value[0] != b' ';
     }
+    false
 }
 
-fn with_word(p: Parsed, option: usize, i: usize) -> Parsed {
-    let o = p.options;
-    let mut at = o.at;
-    let hex = o.hex;
-    if option < 16 {
-        at[option] = i;
-    }
-    Parsed {
-        options: Options { at: at, hex: hex },
-        waits: 0,
-        bad: refusal::none(),
-    }
+// The option's name, with its dashes.
+pub(crate) fn name(option: Opt) -> Text {
+    let row = OPTIONS[place(option)];
+    let name = row.name;
+    text::and_text(text::of(b"--"), text::of_name(&name))
 }
 
-fn waiting(p: Parsed, named: Named) -> Parsed {
-    let o = p.options;
-    let at = o.at;
-    let mut hex = o.hex;
-    let option = named.option;
-    if option < 16 {
-        hex[option] = named.hex;
+// A line for each option that the command takes, as its help prints it.
+pub(crate) fn lines(command: Command) -> Text {
+    let mut t = text::of(b"");
+    let mut i = 0;
+    while i < 16 {
+        if taken(command, i) != b'.' {
+            t = text::and_text(t, line(i));
+        }
+        i += 1;
     }
-    Parsed {
-        options: Options { at: at, hex: hex },
-        waits: option,
-        bad: refusal::none(),
-    }
+    t
 }
 
-// Whether the command takes the option.
-fn takes(command: usize, option: usize) -> bool {
-    match option {
-        1 | 7 => command <= DIGEST,
-        2 | 3 | 6 | 9 | 10 => command <= OPEN,
-        4 => command == SEAL,
-        5 => command == ENCIPHER,
-        8 | 15 => command <= DRAW,
-        11 => command == SEAL || command == ENCIPHER || command >= DRAW,
-        12 | 13 => command == START,
-        14 => command == DIGEST,
-        _ => false,
-    }
-}
-
-fn option_of(w: Text) -> Named {
-    let plain = tables::number_of(&NAMES, first(&w.bytes, w.len)) as usize;
-    if plain != 0 {
-        return Named {
-            option: plain,
-            hex: false,
-        };
-    }
-    Named {
-        option: tables::number_of(&HEX_NAMES, first(&w.bytes, w.len)) as usize,
-        hex: true,
-    }
-}
-
-// The option's name.
-pub(crate) fn name(option: usize) -> Text {
-    text::of(tables::entry(&NAMES, option as u64))
+fn line(i: usize) -> Text
+    requires { ⌜ i < 16 ⌝ }
+{
+    let row = OPTIONS[i];
+    let name = row.name;
+    let value = row.value;
+    let help = row.help;
+    let t = text::and_text(text::of(b"  --"), text::of_name(&name));
+    let u = text::and_text(text::and(t, b" "), text::of_name(&value));
+    text::and(
+        text::and_text(text::to(u, 20), text::of_sentence(&help)),
+        b"\n",
+    )
 }

@@ -1,158 +1,247 @@
 // Outputs: standard output, or a file that is written beside its place and then takes it.
 use crate::drawers;
-use crate::inputs;
+use crate::files::Status;
 use crate::names;
 use crate::options;
+use crate::options::Opt;
 use crate::options::Options;
 use crate::refusal;
 use crate::refusal::Refusal;
-use crate::text;
 use crate::text::Text;
 use libc::STDOUT_FILENO;
 ghost use Prim.Native.Nat.{_≤_, _<_};
 
+// What an output is: a text for people too, what is sealed or noise, or keys.
+pub(crate) enum Kind {
+    Text,
+    Sealed,
+    Keys,
+}
+
+// What was refused, or how the file that is written is to be: whether one was there, whether its rights are set, and
+// whose they are.
+pub(crate) struct Target {
+    pub refusal: Refusal,
+    pub there: bool,
+    pub sets: bool,
+    pub rights: Status,
+}
+
 // Takes the output's name, so that no file is replaced unless --force asks for it, and writes the bytes. Where
 // something was refused before, that is handed on and nothing is done, here and in claim and write.
-pub(crate) fn finish(before: Refusal, o: Options, bytes: &[u8]) -> Refusal {
-    write(claim(before, o), o, bytes)
+pub(crate) fn finish(before: Refusal, o: Options, kind: Kind, bytes: &[u8]) -> Refusal {
+    write(claim(before, o, kind), o, bytes)
 }
 
 fn is_standard(o: Options) -> bool {
-    !options::given(o, options::OUT) || inputs::is_dash(o, options::OUT)
+    !options::given(o, Opt::Out) || options::is_dash(o, Opt::Out)
 }
 
 // Takes the name of the output by an empty file, or sees that --force would replace a file and nothing else.
-pub(crate) fn claim(before: Refusal, o: Options) -> Refusal {
-    if before.number != 0 || is_standard(o) {
-        return before;
+pub(crate) fn claim(before: Refusal, o: Options, kind: Kind) -> Target {
+    if before.number != 0 {
+        return claimed(before, false, false);
     }
-    claim_name(o, options::OUT)
+    if is_standard(o) {
+        return claimed(for_terminal(o, kind), false, false);
+    }
+    claim_name(o, Opt::Out, kind)
 }
 
-pub(crate) fn claim_name(o: Options, option: usize) -> Refusal {
-    let name = options::word_of(o, option);
-    if options::given(o, options::FORCE) {
-        return replaceable(o, name);
+// Without rights that are to be set.
+fn claimed(r: Refusal, there: bool, sets: bool) -> Target {
+    Target {
+        refusal: r,
+        there: there,
+        sets: sets,
+        rights: names::status(crate::text::of(b""), true),
     }
+}
+
+// A terminal would show what is sealed as noise, and keys to whoever looks on.
+fn for_terminal(o: Options, kind: Kind) -> Refusal {
+    if options::given(o, Opt::Out) || is_text(kind) || libc::isatty(STDOUT_FILENO) != 1 {
+        return refusal::none();
+    }
+    refusal::about(Opt::Out, refusal::NOT_WRITTEN, refusal::TERMINAL)
+}
+
+fn is_text(kind: Kind) -> bool {
+    match kind {
+        Kind::Text => true,
+        _ => false,
+    }
+}
+
+fn is_keys(kind: Kind) -> bool {
+    match kind {
+        Kind::Keys => true,
+        _ => false,
+    }
+}
+
+pub(crate) fn claim_name(o: Options, option: Opt, kind: Kind) -> Target {
+    let name = options::word_of(o, option);
     let fd = names::create(name);
     if fd >= 0 {
         libc::close(fd);
-        return refusal::none();
+        return with_rights(name, false, !is_keys(kind));
     }
     if os::errno() == libc::EEXIST {
-        return refusal::about(o, option, refusal::EXISTS, refusal::NO_REASON);
+        return over(o, option, name);
     }
-    refusal::by_system(o, option, refusal::NOT_WRITTEN)
+    claimed(
+        refusal::by_system(option, refusal::NOT_WRITTEN),
+        false,
+        false,
+    )
 }
 
-fn replaceable(o: Options, name: Text) -> Refusal {
+// The rights of the file of this name: those that the umask left an empty one, or those of the one to be replaced.
+pub(crate) fn with_rights(name: Text, there: bool, sets: bool) -> Target {
+    Target {
+        refusal: refusal::none(),
+        there: there,
+        sets: sets,
+        rights: names::status(name, false),
+    }
+}
+
+// Over what is there.
+fn over(o: Options, option: Opt, name: Text) -> Target {
+    let why = kept_for(name);
+    let replaceable = why == refusal::NO_REASON && options::is_stream(option);
+    if !options::given(o, Opt::Force) {
+        let hint = if replaceable {
+            refusal::FORCE_HELPS
+        } else {
+            refusal::NO_REASON
+        };
+        return claimed(refusal::about(option, refusal::EXISTS, hint), false, false);
+    }
+    if replaceable {
+        return with_rights(name, true, true);
+    }
+    claimed(
+        refusal::about(option, refusal::NOT_WRITTEN, why),
+        false,
+        false,
+    )
+}
+
+// Why a file is not replaced: it is none, it cannot be written, or it is a drawer, whose numbers could be drawn again.
+fn kept_for(name: Text) -> usize {
+    let kind = kind_of(names::status(name, false));
+    if kind != refusal::NO_REASON {
+        return kind;
+    }
     let fd = names::open_update(name);
     if fd < 0 {
-        if os::errno() == libc::ENOENT {
-            return refusal::none();
-        }
-        return refusal::by_system(o, options::OUT, refusal::NOT_WRITTEN);
-    }
-    let why = kept_for(fd);
-    libc::close(fd);
-    if why == refusal::NO_REASON {
-        return refusal::none();
-    }
-    refusal::about(o, options::OUT, refusal::NOT_WRITTEN, why)
-}
-
-// Why a file is not replaced. A drawer never is, since its numbers could be drawn again; and what is no file, as a
-// device or a pipe, cannot be cut to the length that it has.
-fn kept_for(fd: i32) -> usize {
-    if libc::ftruncate(fd, libc::lseek(fd, 0, libc::SEEK_END)) != 0 {
-        return refusal::SPECIAL;
+        return refusal::error();
     }
     let k = drawers::kept_in(fd);
+    libc::close(fd);
     if k.good {
         return refusal::DRAWER_FILE;
     }
     refusal::NO_REASON
 }
 
-// Gives a name that was taken free again.
-pub(crate) fn release(o: Options) {
-    if !is_standard(o) {
-        release_name(o, options::OUT);
+// What a file is that is not a regular one.
+pub(crate) fn kind_of(s: Status) -> usize {
+    match s.mode / 4096 % 16 {
+        8 => refusal::NO_REASON,
+        4 => refusal::A_DIRECTORY,
+        10 => refusal::LINK,
+        _ => refusal::SPECIAL,
     }
 }
 
-pub(crate) fn release_name(o: Options, option: usize) {
-    if !options::given(o, options::FORCE) {
+// Gives a name that was taken free again.
+pub(crate) fn release(o: Options, option: Opt, c: Target) {
+    if !c.there && options::given(o, option) && !options::is_dash(o, option) {
         names::unlink(options::word_of(o, option));
     }
 }
 
 // Writes the output, whose name is taken.
-pub(crate) fn write(before: Refusal, o: Options, bytes: &[u8]) -> Refusal {
-    if before.number != 0 {
-        return before;
+pub(crate) fn write(c: Target, o: Options, bytes: &[u8]) -> Refusal {
+    let bad = c.refusal;
+    if bad.number != 0 {
+        return bad;
     }
     if !is_standard(o) {
-        return write_file(o, options::OUT, bytes);
+        return write_file(o, Opt::Out, c, bytes);
     }
-    if sent(o, options::OUT, STDOUT_FILENO, bytes) {
+    printed(sent(o, Opt::Out, STDOUT_FILENO, bytes))
+}
+
+// What is refused where standard output did not take it all.
+pub(crate) fn printed(all: bool) -> Refusal {
+    if all {
         return refusal::none();
     }
-    refusal::by_system(o, options::OUT, refusal::NOT_WRITTEN)
+    refusal::by_system(Opt::Out, refusal::NOT_WRITTEN)
 }
 
 // Writes the file that the option names, beside it first.
-pub(crate) fn write_file(o: Options, option: usize, bytes: &[u8]) -> Refusal {
-    let r = written(o, option, beside(o, option), bytes);
+pub(crate) fn write_file(o: Options, option: Opt, c: Target, bytes: &[u8]) -> Refusal {
+    let r = written(o, option, c, bytes);
     if r.number != 0 {
-        release_name(o, option);
+        release(o, option, c);
     }
     r
 }
 
-// The option's name with the number of this process and `.part` behind it.
-fn beside(o: Options, option: usize) -> Text {
-    let pid = crate::natural(libc::getpid()) as u64;
-    text::and_text(
-        options::word_of(o, option),
-        text::number(b".", pid, b".part"),
-    )
+fn written(o: Options, option: Opt, c: Target, bytes: &[u8]) -> Refusal {
+    let name = options::word_of(o, option);
+    let s = names::new_scratch(name);
+    if s.fd < 0 {
+        return refusal::by_system(option, refusal::NOT_WRITTEN);
+    }
+    let r = filled(o, option, s.fd, c, bytes);
+    libc::close(s.fd);
+    let t = put_in_place(r, option, s.name, name);
+    if t.number != 0 {
+        names::unlink(s.name);
+    }
+    t
 }
 
-fn written(o: Options, option: usize, beside: Text, bytes: &[u8]) -> Refusal {
-    let fd = names::create(beside);
-    if fd < 0 {
-        return refusal::by_system(o, option, refusal::NOT_WRITTEN);
-    }
-    let r = filled(o, option, fd, bytes);
-    libc::close(fd);
-    let s = put_in_place(r, o, option, beside);
-    if s.number != 0 {
-        names::unlink(beside);
-    }
-    s
-}
-
-// Gives the file beside it the name that the option names, unless something was refused before.
-pub(crate) fn put_in_place(before: Refusal, o: Options, option: usize, beside: Text) -> Refusal {
+// Gives a file the name that the option names, unless something was refused before.
+pub(crate) fn put_in_place(before: Refusal, option: Opt, from: Text, to: Text) -> Refusal {
     if before.number != 0 {
         return before;
     }
-    if names::rename(beside, options::word_of(o, option)) == 0 {
+    if names::rename(from, to) == 0 {
         return refusal::none();
     }
-    refusal::by_system(o, option, refusal::NOT_WRITTEN)
+    refusal::by_system(option, refusal::NOT_WRITTEN)
 }
 
-// Writes all to a file and waits until it is on the disk.
-pub(crate) fn filled(o: Options, option: usize, fd: i32, bytes: &[u8]) -> Refusal {
+// Sets the rights first, so that nobody sees the bytes with wider ones, writes all and waits until it is on the disk.
+pub(crate) fn filled(o: Options, option: Opt, fd: i32, c: Target, bytes: &[u8]) -> Refusal {
+    if c.sets && !rights_set(fd, c) {
+        return refusal::about(option, refusal::NOT_WRITTEN, refusal::RIGHTS);
+    }
     if sent(o, option, fd, bytes) && libc::fsync(fd) == 0 {
         return refusal::none();
     }
-    refusal::by_system(o, option, refusal::NOT_WRITTEN)
+    refusal::by_system(option, refusal::NOT_WRITTEN)
 }
 
-fn sent(o: Options, option: usize, fd: i32, bytes: &[u8]) -> bool {
+// The group is kept, or nothing is: its rights would go to another. Of the owner only root can keep another's.
+fn rights_set(fd: i32, c: Target) -> bool {
+    let s = c.rights;
+    if !s.good {
+        return false;
+    }
+    let kept = libc::fchown(fd, s.owner, s.group) == 0
+        || libc::fchown(fd, 4294967295, s.group) == 0;
+    kept && libc::fchmod(fd, s.mode % 512) == 0
+}
+
+fn sent(o: Options, option: Opt, fd: i32, bytes: &[u8]) -> bool {
     if options::in_hex(o, option) {
         return sent_in_hex(fd, bytes);
     }
@@ -160,7 +249,7 @@ fn sent(o: Options, option: usize, fd: i32, bytes: &[u8]) -> bool {
 }
 
 // One line.
-fn sent_in_hex(fd: i32, bytes: &[u8]) -> bool {
+pub(crate) fn sent_in_hex(fd: i32, bytes: &[u8]) -> bool {
     let mut at = 0;
     while at < bytes.len() {
         let end = chunk_end(at, bytes.len());

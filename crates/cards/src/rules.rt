@@ -1,106 +1,110 @@
 // Which options go together, and which words are numbers: what is judged before anything is read.
+use crate::commands::Command;
 use crate::drawers;
 use crate::inputs;
+use crate::names;
 use crate::options;
+use crate::options::Opt;
 use crate::options::Options;
 use crate::options::given;
 use crate::refusal;
 use crate::refusal::Refusal;
 use crate::refusal::or;
-use crate::text;
 
 // What is refused first. No rule has an effect, so all are judged.
-pub(crate) fn judged(command: usize, o: Options) -> Refusal {
-    let r = or(together(command, o), numbers(o));
-    or(r, or(not_in_drawer(o), standard_input(command, o)))
+pub(crate) fn judged(command: Command, o: Options) -> Refusal {
+    let r = or(required(command, o), or(together(command, o), numbers(o)));
+    or(
+        r,
+        or(
+            standard_input(command, o),
+            or(not_in_drawer(o), not_over_input(o)),
+        ),
+    )
 }
 
-// The output goes neither to the drawer nor to the file beside it.
-fn not_in_drawer(o: Options) -> Refusal {
-    if !given(o, options::DRAWER) || !given(o, options::OUT) {
-        return refusal::none();
-    }
-    let out = options::word_of(o, options::OUT);
-    let name = options::word_of(o, options::DRAWER);
-    if text::is_text(out, name) || text::is_text(out, drawers::beside(o)) {
-        return against(o, options::OUT, refusal::NOT_TOGETHER);
+// What the table has as needed.
+fn required(command: Command, o: Options) -> Refusal {
+    let at = o.at;
+    let mut row = 0;
+    while row < 16 {
+        if options::taken(command, row) == b'!' && at[row] == 0 {
+            return against(options::at(row), refusal::NEEDED);
+        }
+        row += 1;
     }
     refusal::none()
 }
 
-fn together(command: usize, o: Options) -> Refusal {
+fn together(command: Command, o: Options) -> Refusal {
     match command {
-        options::SEAL => or(for_card(o), one_of(o, options::DRAWER, options::NONCE)),
-        options::OPEN => for_card(o),
-        options::ENCIPHER => or(
-            needs(o, options::KEY),
-            one_of(o, options::DRAWER, options::IV),
-        ),
-        options::DECIPHER => needs(o, options::KEY),
-        options::DRAW => needs(o, options::DRAWER),
-        options::START => or(needs(o, options::DRAWER), needs(o, options::READER)),
+        Command::Seal => or(for_card(o), one_of(o, Opt::Drawer, Opt::Nonce)),
+        Command::Open => for_card(o),
+        Command::Check => for_card(o),
+        Command::Encipher => one_of(o, Opt::Drawer, Opt::Iv),
+        Command::Show => not_both(o, Opt::Drawer, Opt::In),
         _ => refusal::none(),
     }
 }
 
 fn for_card(o: Options) -> Refusal {
-    let key = or(one_of(o, options::KEY, options::BOOK), with_book(o));
-    or(key, not_both(o, options::DATA, options::LABEL))
+    let key = or(one_of(o, Opt::Key, Opt::Book), with_book(o));
+    or(key, not_both(o, Opt::Data, Opt::Label))
 }
 
 // With a book a class is needed, and without one neither that nor last term's book may be there.
 fn with_book(o: Options) -> Refusal {
-    if given(o, options::BOOK) {
-        return needs(o, options::CLASS);
+    if given(o, Opt::Book) {
+        return needs(o, Opt::Class);
     }
-    or(barred(o, options::CLASS), barred(o, options::LAST_BOOK))
+    or(barred(o, Opt::Class), barred(o, Opt::LastBook))
 }
 
-fn needs(o: Options, option: usize) -> Refusal {
+fn needs(o: Options, option: Opt) -> Refusal {
     if given(o, option) {
         return refusal::none();
     }
-    against(o, option, refusal::NEEDED)
+    against(option, refusal::NEEDED)
 }
 
-fn barred(o: Options, option: usize) -> Refusal {
+fn barred(o: Options, option: Opt) -> Refusal {
     if given(o, option) {
-        return against(o, option, refusal::NOT_TOGETHER);
+        return against(option, refusal::NOT_TOGETHER);
     }
     refusal::none()
 }
 
-fn not_both(o: Options, a: usize, b: usize) -> Refusal {
+fn not_both(o: Options, a: Opt, b: Opt) -> Refusal {
     if given(o, a) {
         return barred(o, b);
     }
     refusal::none()
 }
 
-fn one_of(o: Options, a: usize, b: usize) -> Refusal {
+fn one_of(o: Options, a: Opt, b: Opt) -> Refusal {
     if !given(o, b) {
         return needs(o, a);
     }
     not_both(o, a, b)
 }
 
-fn against(o: Options, option: usize, why: usize) -> Refusal {
-    refusal::about(o, option, refusal::COMMAND_LINE, why)
+fn against(option: Opt, why: usize) -> Refusal {
+    refusal::about(option, refusal::COMMAND_LINE, why)
 }
 
 fn numbers(o: Options) -> Refusal {
     let r = or(
-        number(o, options::CLASS, 65535),
-        number(o, options::READER, 4294967295),
+        number(o, Opt::Class, 65535),
+        number(o, Opt::Reader, 4294967295),
     );
     let s = or(
-        number(o, options::COUNT, 18446744073709551615),
-        number(o, options::LENGTH, 18446744073709551615),
+        number(o, Opt::Count, 18446744073709551615),
+        number(o, Opt::Length, 18446744073709551615),
     );
     or(r, s)
 }
 
-fn number(o: Options, option: usize, most: u64) -> Refusal {
+fn number(o: Options, option: Opt, most: u64) -> Refusal {
     if !given(o, option) {
         return refusal::none();
     }
@@ -108,21 +112,72 @@ fn number(o: Options, option: usize, most: u64) -> Refusal {
     if d.good && d.value <= most {
         return refusal::none();
     }
-    against(o, option, refusal::NO_NUMBER)
+    against(option, refusal::NO_NUMBER)
 }
 
-// Standard input is read for one input only.
-fn standard_input(command: usize, o: Options) -> Refusal {
-    let mut taken = command <= options::DIGEST && !given(o, options::IN);
-    let mut option = options::KEY;
-    while option <= options::IN {
-        if inputs::is_dash(o, option) {
+// Standard input is read for one input only. The rows up to --in are those of inputs.
+fn standard_input(command: Command, o: Options) -> Refusal {
+    let mut taken = reads_standard(command, o);
+    let mut row = 0;
+    while row < 7 {
+        if options::is_dash(o, options::at(row)) {
             if taken {
-                return against(o, option, refusal::STANDARD_INPUT_TAKEN);
+                return against(options::at(row), refusal::STANDARD_INPUT_TAKEN);
             }
             taken = true;
         }
-        option += 1;
+        row += 1;
+    }
+    refusal::none()
+}
+
+// Whether standard input is read because no --in names a file.
+fn reads_standard(command: Command, o: Options) -> bool {
+    options::taken(command, options::place(Opt::In)) != b'.'
+        && !given(o, Opt::In)
+        && !given_to_show(command, o)
+}
+
+// show --drawer reads the drawer alone.
+fn given_to_show(command: Command, o: Options) -> bool {
+    match command {
+        Command::Show => given(o, Opt::Drawer),
+        _ => false,
+    }
+}
+
+// Whether a file is named for the output.
+fn has_file(o: Options) -> bool {
+    given(o, Opt::Out) && !options::is_dash(o, Opt::Out)
+}
+
+// The output goes neither to the drawer nor to the file beside it, under whatever name.
+fn not_in_drawer(o: Options) -> Refusal {
+    if !given(o, Opt::Drawer) || !has_file(o) {
+        return refusal::none();
+    }
+    let out = options::word_of(o, Opt::Out);
+    let drawer = options::word_of(o, Opt::Drawer);
+    if names::same_place(out, drawer) || names::same_place(out, drawers::beside(o)) {
+        return against(Opt::Out, refusal::DRAWERS_OWN);
+    }
+    refusal::none()
+}
+
+// Nor does it replace a file that is read beside --in.
+fn not_over_input(o: Options) -> Refusal {
+    if !given(o, Opt::Force) || !has_file(o) {
+        return refusal::none();
+    }
+    let out = options::word_of(o, Opt::Out);
+    let mut row = 0;
+    while row < 6 {
+        let option = options::at(row);
+        let named = given(o, option) && !options::is_dash(o, option);
+        if named && names::same_file(out, options::word_of(o, option)) {
+            return against(Opt::Out, refusal::IS_INPUT);
+        }
+        row += 1;
     }
     refusal::none()
 }

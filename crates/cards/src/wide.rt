@@ -3,8 +3,10 @@ use crate::drawers;
 use crate::first_mut;
 use crate::inputs;
 use crate::options;
+use crate::options::Opt;
 use crate::options::Options;
 use crate::outputs;
+use crate::outputs::Kind;
 use crate::put;
 use crate::refusal;
 use crate::refusal::Refusal;
@@ -16,9 +18,9 @@ pub(crate) fn encipher(o: Options) -> Refusal {
     let mut key = [0u8; 129];
     let mut iv = [0u8; 49];
     let mut file = rooms::wide_file();
-    let k = inputs::read(refusal::none(), o, options::KEY, &mut key);
-    let i = inputs::read_given(k.refusal, o, options::IV, 0, &mut iv);
-    let b = inputs::read(i.refusal, o, options::IN, behind_iv(&mut file));
+    let k = inputs::read(refusal::none(), o, Opt::Key, &mut key);
+    let i = inputs::read_given(k.refusal, o, Opt::Iv, 0, &mut iv);
+    let b = inputs::read(i.refusal, o, Opt::In, behind_iv(&mut file));
     let r = b.refusal;
     encipher_under(
         r,
@@ -42,11 +44,16 @@ fn encipher_under(
     if before.number != 0 {
         return before;
     }
-    if options::given(o, options::DRAWER) {
+    if options::given(o, Opt::Drawer) {
         return encipher_drawn(o, key, file, n);
     }
     let number = enciphered(key, iv, file, n);
-    outputs::finish(refused(o, options::IV, number), o, first(file, with_iv(n)))
+    outputs::finish(
+        enciphering(number),
+        o,
+        Kind::Sealed,
+        first(file, with_iv(n)),
+    )
 }
 
 fn encipher_drawn(o: Options, key: &[u8], file: &mut [u8], n: usize) -> Refusal {
@@ -59,11 +66,8 @@ fn encipher_drawn(o: Options, key: &[u8], file: &mut [u8], n: usize) -> Refusal 
     let iv = drawn.bytes;
     let next = drawn.next;
     let number = enciphered(key, &iv, file, n);
-    let against = refusal::or(
-        refused(o, options::IV, number),
-        drawers::spent(o, drawn.number),
-    );
-    drawers::spend(o, h, next, against, first(file, with_iv(n)))
+    let against = refusal::or(enciphering(number), drawers::spent(drawn.number));
+    drawers::spend(o, h, next, Kind::Sealed, against, first(file, with_iv(n)))
 }
 
 // Enciphers the n bytes that stand behind the place of the iv, and puts the iv there.
@@ -77,8 +81,8 @@ fn enciphered(key: &[u8], iv: &[u8], file: &mut [u8], n: usize) -> u32 {
 pub(crate) fn decipher(o: Options) -> Refusal {
     let mut key = [0u8; 129];
     let mut file = rooms::wide_file();
-    let k = inputs::read(refusal::none(), o, options::KEY, &mut key);
-    let f = inputs::read(k.refusal, o, options::IN, &mut file);
+    let k = inputs::read(refusal::none(), o, Opt::Key, &mut key);
+    let f = inputs::read(k.refusal, o, Opt::In, &mut file);
     let r = f.refusal;
     decipher_in(r, o, first(&key, k.len), first_mut(&mut file, f.len))
 }
@@ -91,7 +95,7 @@ fn decipher_in(before: Refusal, o: Options, key: &[u8], file: &mut [u8]) -> Refu
     let n = put(&mut iv, 0, file);
     let block = behind_iv(file);
     let number = lioness::decipher(key, first(&iv, n), block);
-    outputs::finish(refused(o, options::IN, number), o, block)
+    outputs::finish(deciphering(number), o, Kind::Sealed, block)
 }
 
 // What stands behind the 48 bytes of an iv, nothing where there are fewer.
@@ -107,12 +111,21 @@ fn with_iv(n: usize) -> usize {
     if n < 1048610 { n + 48 } else { 0 }
 }
 
-// Which input a number of a wide block is about; the iv has an input of its own, or is a part of the wide file.
-fn refused(o: Options, iv: usize, number: u32) -> Refusal {
+// Which input a number of enciphering is about.
+fn enciphering(number: u32) -> Refusal {
     match number {
         0 => refusal::none(),
-        1 => refusal::about(o, options::KEY, 1, refusal::KEY_128),
-        2 => refusal::about(o, iv, 2, refusal::IV_48),
-        _ => refusal::about(o, options::IN, number, refusal::WIDE),
+        1 => refusal::about(Opt::Key, 1, refusal::KEY_128),
+        2 => refusal::about(Opt::Iv, 2, refusal::IV_48),
+        _ => refusal::about(Opt::In, number, refusal::BLOCK),
+    }
+}
+
+// The same of deciphering, where the iv is a part of the wide file.
+fn deciphering(number: u32) -> Refusal {
+    match number {
+        0 => refusal::none(),
+        1 => refusal::about(Opt::Key, 1, refusal::KEY_128),
+        _ => refusal::about(Opt::In, number, refusal::WIDE_FILE),
     }
 }

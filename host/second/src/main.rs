@@ -1,18 +1,14 @@
 //! The second implementation as a program; its first argument is a command.
 
 use std::ffi::OsString;
-use std::fs::File;
 use std::io::{self, Read, Write};
-use std::os::fd::AsFd;
-use std::os::unix::ffi::OsStringExt;
-use std::path::{Path, PathBuf};
+use std::path::Path;
 use std::process::ExitCode;
 
-use second::tool::{self, golden, Around};
-use second::{cases, edges};
+use second::{cases, edges, golden, tool_cases};
 
 const USAGE: &str = "usage: second cases | second answers <CASES | second edges \
-                     | second cards ARGUMENT.. | second golden DIRECTORY";
+                     | second golden DIRECTORY | second tool-cases DIRECTORY";
 
 fn read_all() -> io::Result<Vec<u8>> {
     let mut input = Vec::new();
@@ -26,24 +22,6 @@ fn write_all(output: &str) -> io::Result<()> {
     out.flush()
 }
 
-/// Runs the tool `cards` with `words`. Standard input and output are used as
-/// the plain files that they are, so that what fails there is seen.
-fn cards(words: &[OsString]) -> io::Result<()> {
-    let mut input = File::from(io::stdin().as_fd().try_clone_to_owned()?);
-    let mut output = File::from(io::stdout().as_fd().try_clone_to_owned()?);
-    let arguments: Vec<_> = words.iter().cloned().map(OsString::into_vec).collect();
-    let mut line = tool::run(
-        &arguments,
-        &mut Around {
-            directory: PathBuf::new(),
-            input: &mut input,
-            output: &mut output,
-        },
-    );
-    line.push(b'\n');
-    io::stderr().write_all(&line)
-}
-
 /// Runs the command in `arguments`; answers whether there is such a command.
 fn run(arguments: &[OsString]) -> io::Result<bool> {
     let Some((command, words)) = arguments.split_first() else {
@@ -53,8 +31,8 @@ fn run(arguments: &[OsString]) -> io::Result<bool> {
         ("cases", []) => write_all(&cases::cases())?,
         ("answers", []) => write_all(&cases::answers(&read_all()?))?,
         ("edges", []) => write_all(&edges::edges())?,
-        ("cards", words) => cards(words)?,
         ("golden", [directory]) => golden::write(Path::new(directory))?,
+        ("tool-cases", [directory]) => tool_cases::write(Path::new(directory))?,
         _ => return Ok(false),
     }
     Ok(true)

@@ -44,6 +44,23 @@ impl Random {
         self.fill(&mut room);
         room
     }
+
+    /// A number from 0, below `end`.
+    pub fn below(&mut self, end: usize) -> usize {
+        (self.next_u64() % end as u64) as usize
+    }
+
+    /// One of `list`.
+    pub fn pick<T: Copy>(&mut self, list: &[T]) -> T {
+        list[self.below(list.len())]
+    }
+
+    /// Puts `list` in another order.
+    pub fn shuffle<T>(&mut self, list: &mut [T]) {
+        for end in (1..list.len()).rev() {
+            list.swap(end, self.below(end + 1));
+        }
+    }
 }
 
 #[cfg(test)]
@@ -57,5 +74,23 @@ mod tests {
         assert_eq!(long[..13], short[..]);
         assert_ne!(long, Random::new(8).bytes(41));
         assert!(Random::new(7).bytes(0).is_empty());
+    }
+
+    #[test]
+    fn every_choice_and_every_order_comes() {
+        let mut random = Random::new(9);
+        let mut picked: Vec<u8> = (0..100).map(|_| random.pick(&[3, 5, 8])).collect();
+        picked.sort_unstable();
+        picked.dedup();
+        assert_eq!(picked, [3, 5, 8]);
+        let mut orders: Vec<[u8; 3]> = Vec::new();
+        for _ in 0..100 {
+            let mut list = [1, 2, 3];
+            random.shuffle(&mut list);
+            orders.push(list);
+        }
+        orders.sort_unstable();
+        orders.dedup();
+        assert_eq!(orders.len(), 6);
     }
 }

@@ -1,6 +1,9 @@
 //! The program `second` as its callers see it.
 
+use std::collections::BTreeMap;
+use std::fs;
 use std::io::Write;
+use std::path::{Path, PathBuf};
 use std::process::{Command, Output, Stdio};
 
 fn second(arguments: &[&str], input: &[u8]) -> Output {
@@ -43,9 +46,92 @@ fn edges_are_printed_one_on_each_line() {
     assert!(!text.contains("  ") && !text.contains(" \n"));
 }
 
+/// A directory that is not there yet, and goes with this.
+struct Fresh(PathBuf);
+
+impl Fresh {
+    fn new(name: &str) -> Fresh {
+        let name = format!("second-{name}-{}", std::process::id());
+        let directory = std::env::temp_dir().join(name);
+        let _ = fs::remove_dir_all(&directory);
+        Fresh(directory)
+    }
+
+    /// What the command writes to it: the names and bytes of all files.
+    fn written_by(&self, command: &str) -> BTreeMap<PathBuf, Vec<u8>> {
+        let name = self.0.to_str().expect("a name in Unicode");
+        let ended = second(&[command, name], b"");
+        assert!(ended.status.success());
+        assert!(ended.stdout.is_empty() && ended.stderr.is_empty());
+        let mut files = BTreeMap::new();
+        collect(&self.0, &mut files);
+        files
+    }
+}
+
+impl Drop for Fresh {
+    fn drop(&mut self) {
+        let _ = fs::remove_dir_all(&self.0);
+    }
+}
+
+/// Adds the files in `directory` and below it.
+fn collect(directory: &Path, files: &mut BTreeMap<PathBuf, Vec<u8>>) {
+    for entry in fs::read_dir(directory).expect("a directory") {
+        let path = entry.expect("an entry").path();
+        if path.is_dir() {
+            collect(&path, files);
+        } else {
+            let bytes = fs::read(&path).expect("a file");
+            files.insert(path, bytes);
+        }
+    }
+}
+
+#[test]
+fn golden_run_has_five_files() {
+    let fresh = Fresh::new("golden");
+    let files = fresh.written_by("golden");
+    let names = ["args", "data/last-term", "data/song.card", "data/this-term"];
+    let names = names.into_iter().chain(["stdout"]);
+    assert!(files
+        .keys()
+        .cloned()
+        .eq(names.map(|name| fresh.0.join(name))));
+    assert!(files[&fresh.0.join("args")].starts_with(b"open\n--book-hex\nthis-term\n"));
+    // Over the same files too.
+    assert_eq!(fresh.written_by("golden"), files);
+}
+
+#[test]
+fn tool_cases_are_the_same_each_time_and_in_a_table() {
+    let fresh = Fresh::new("tool-cases");
+    let files = fresh.written_by("tool-cases");
+    let table = String::from_utf8(files[&fresh.0.join("table")].clone()).expect("a text");
+    assert!(table.lines().count() > 150 && table.ends_with('\n'));
+    for line in table.lines() {
+        let fields: Vec<&str> = line.split('|').collect();
+        assert_eq!(fields.len(), 4, "{line}");
+        if fields[0] == "0" {
+            assert!(files.contains_key(&fresh.0.join(fields[1])), "{line}");
+        }
+    }
+    assert!(fresh.written_by("tool-cases") == files);
+}
+
+#[test]
+fn a_directory_that_cannot_be_written_is_said() {
+    for command in ["golden", "tool-cases"] {
+        let ended = second(&[command, "/dev/null/here"], b"");
+        assert_eq!(ended.status.code(), Some(1), "{command}");
+        assert!(ended.stdout.is_empty());
+        assert!(ended.stderr.starts_with(b"second: "), "{command}");
+    }
+}
+
 #[test]
 fn anything_else_gives_a_usage_line_and_status_2() {
-    let wrong: [&[&str]; 8] = [
+    let wrong: [&[&str]; 13] = [
         &[],
         &[""],
         &["case"],
@@ -54,6 +140,11 @@ fn anything_else_gives_a_usage_line_and_status_2() {
         &["edges", "more"],
         &["edge"],
         &["--cases"],
+        &["golden"],
+        &["golden", "one", "two"],
+        &["tool-cases"],
+        &["tool-cases", "one", "two"],
+        &["cards", "help"],
     ];
     for arguments in wrong {
         let output = second(arguments, b"");

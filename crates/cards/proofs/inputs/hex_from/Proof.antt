@@ -1,14 +1,22 @@
 use mathlib.Core.Path.{_≡_}
 use lib.ListN.{length}
+use Prim.Native.Nat.{_-_}
 use borrow.Author.Needs.{needs}
 use Rattle.cards.proofs.inputs.hex_from.Statement.{statement}
 use Rattle.cards.proofs.inputs.hex_from.Tie as tie
+use Rattle.cards.proofs.inputs.ended.Reads as ended-reads
+use Rattle.cards.proofs.inputs.gave.Reads as gave-reads
+use Rattle.hex.proofs.begin.Reads as begin-reads
+use Rattle.hex.proofs.take_in.Reads as take-in-reads
+use Rattle.io.proofs.count.Reads as count-reads
+use Rattle.io.proofs.large_buffer.Reads as large-buffer-reads
+use Rattle.libc.proofs.read.Reads as read-reads
 
 abbrev Inv-loop : tie.InvT-loop
-Inv-loop fd room₀ h₀ chunk₀ fuel₀ room h chunk fuel = (length room ≡ length room₀) × (65536 ≡ length chunk)
+Inv-loop fd room₀ h₀ chunk₀ left₀ room h chunk left = (length room ≡ length room₀) × (65536 ≡ length chunk)
 
 abbrev μ-loop : tie.MeasureT-loop
-μ-loop fd room₀ h₀ chunk₀ fuel₀ room h chunk fuel = fuel
+μ-loop fd room₀ h₀ chunk₀ left₀ room h chunk left = left
 
 begin-requires : tie.Need-begin-requires Inv-loop μ-loop
 begin-requires c κs = search needs
@@ -31,9 +39,6 @@ slice-aggregate-count c = search needs
 count-requires : tie.Need-count-requires Inv-loop μ-loop
 count-requires c κs = search needs
 
-whole-requires : tie.Need-whole-requires Inv-loop μ-loop
-whole-requires c κs = search needs
-
 ended-requires : tie.Need-ended-requires Inv-loop μ-loop
 ended-requires c κs = search needs
 
@@ -52,8 +57,17 @@ slice-aggregate-take-in c = search needs
 take-in-requires : tie.Need-take-in-requires Inv-loop μ-loop
 take-in-requires c κs = search needs
 
-sub-fuel : tie.Need-sub-fuel Inv-loop μ-loop
-sub-fuel c = search needs
+gave-requires : tie.Need-gave-requires Inv-loop μ-loop
+gave-requires c κs = search needs
+
+same-length-2 : tie.Need-same-length-2 Inv-loop μ-loop
+same-length-2 c = search needs
+
+returns-2 : tie.Need-returns-2 Inv-loop μ-loop
+returns-2 c = search needs
+
+sub-left : tie.Need-sub-left Inv-loop μ-loop
+sub-left c = search needs
 
 loop-less : tie.Need-loop-less Inv-loop μ-loop
 loop-less c = search needs
@@ -61,14 +75,20 @@ loop-less c = search needs
 loop-again : tie.Need-loop-again Inv-loop μ-loop
 loop-again c = search needs
 
-ended-requires-2 : tie.Need-ended-requires-2 Inv-loop μ-loop
-ended-requires-2 c κs = search needs
+loop-less-2 : tie.Need-loop-less-2 Inv-loop μ-loop
+loop-less-2 c = search needs
 
-same-length-2 : tie.Need-same-length-2 Inv-loop μ-loop
-same-length-2 c = search needs
+loop-again-2 : tie.Need-loop-again-2 Inv-loop μ-loop
+loop-again-2 c = search needs
 
-returns-2 : tie.Need-returns-2 Inv-loop μ-loop
-returns-2 c = search needs
+gave-requires-2 : tie.Need-gave-requires-2 Inv-loop μ-loop
+gave-requires-2 c κs = search needs
+
+same-length-3 : tie.Need-same-length-3 Inv-loop μ-loop
+same-length-3 c = search needs
+
+returns-3 : tie.Need-returns-3 Inv-loop μ-loop
+returns-3 c = search needs
 
 pub hex-from-spec : {M : Type 1} → statement M
 hex-from-spec =
@@ -83,16 +103,20 @@ hex-from-spec =
     read-requires
     slice-aggregate-count
     count-requires
-    whole-requires
     ended-requires
     same-length
     returns
     array-share-prefix-chunk
     slice-aggregate-take-in
     take-in-requires
-    sub-fuel
+    gave-requires
+    same-length-2
+    returns-2
+    sub-left
     loop-less
     loop-again
-    ended-requires-2
-    same-length-2
-    returns-2)
+    loop-less-2
+    loop-again-2
+    gave-requires-2
+    same-length-3
+    returns-3)

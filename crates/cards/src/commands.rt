@@ -1,0 +1,184 @@
+// The commands, and the table that names them.
+use crate::text;
+use crate::text::Text;
+use words::first;
+ghost use Prim.Native.Nat.{_<_};
+
+pub(crate) enum Command {
+    Seal,
+    Open,
+    Check,
+    Encipher,
+    Decipher,
+    Digest,
+    Start,
+    Draw,
+    Show,
+    Book,
+    Classes,
+    Help,
+    Version,
+}
+
+// Names and sentences are filled with blanks to one width each.
+struct CommandRow {
+    command: Command,
+    name: [u8; 9],
+    help: [u8; 96],
+}
+
+// In the order of their columns in the table of options.
+const COMMANDS: [CommandRow; 12] = [
+    CommandRow {
+        command: Command::Seal,
+        name: *b"seal     ",
+        help: *b"seals a text, and writes a card                                                                 ",
+    },
+    CommandRow {
+        command: Command::Open,
+        name: *b"open     ",
+        help: *b"opens a card, if its tag is right                                                               ",
+    },
+    CommandRow {
+        command: Command::Check,
+        name: *b"check    ",
+        help: *b"says whether a card opens, and writes nothing                                                   ",
+    },
+    CommandRow {
+        command: Command::Encipher,
+        name: *b"encipher ",
+        help: *b"enciphers a wide block, as a recording                                                          ",
+    },
+    CommandRow {
+        command: Command::Decipher,
+        name: *b"decipher ",
+        help: *b"deciphers it                                                                                    ",
+    },
+    CommandRow {
+        command: Command::Digest,
+        name: *b"digest   ",
+        help: *b"takes a BLAKE2b digest                                                                          ",
+    },
+    CommandRow {
+        command: Command::Start,
+        name: *b"start    ",
+        help: *b"makes a drawer of nonces                                                                        ",
+    },
+    CommandRow {
+        command: Command::Draw,
+        name: *b"draw     ",
+        help: *b"takes a nonce from it                                                                           ",
+    },
+    CommandRow {
+        command: Command::Show,
+        name: *b"show     ",
+        help: *b"shows what a drawer holds, or the parts of a card                                               ",
+    },
+    CommandRow {
+        command: Command::Book,
+        name: *b"book     ",
+        help: *b"makes a key book                                                                                ",
+    },
+    CommandRow {
+        command: Command::Classes,
+        name: *b"classes  ",
+        help: *b"lists the classes of a key book                                                                 ",
+    },
+    CommandRow {
+        command: Command::Help,
+        name: *b"help     ",
+        help: *b"tells more: cards help COMMAND, with examples                                                   ",
+    },
+];
+
+// A command that a word names, if there is one.
+pub(crate) struct Named {
+    pub good: bool,
+    pub command: Command,
+}
+
+// The command that a word names: one of the table, or one of the usual words for help and version.
+pub(crate) fn of_word(w: Text) -> Named {
+    if text::is(w, b"--help") || text::is(w, b"-h") {
+        return known(Command::Help);
+    }
+    if text::is(w, b"--version") {
+        return known(Command::Version);
+    }
+    in_table(first(&w.bytes, w.len))
+}
+
+fn known(command: Command) -> Named {
+    Named {
+        good: true,
+        command: command,
+    }
+}
+
+fn in_table(word: &[u8]) -> Named {
+    let mut i = 0;
+    while i < 12 {
+        let row = COMMANDS[i];
+        let name = row.name;
+        if text::is_name(&name, word) {
+            let command = row.command;
+            return known(command);
+        }
+        i += 1;
+    }
+    Named {
+        good: false,
+        command: Command::Help,
+    }
+}
+
+// The command's row in the table, and its column in the table of options.
+pub(crate) fn place(command: Command) -> usize
+    ensures { λ r. ⌜ r < 12 ⌝ }
+{
+    match command {
+        Command::Seal => 0,
+        Command::Open => 1,
+        Command::Check => 2,
+        Command::Encipher => 3,
+        Command::Decipher => 4,
+        Command::Digest => 5,
+        Command::Start => 6,
+        Command::Draw => 7,
+        Command::Show => 8,
+        Command::Book => 9,
+        Command::Classes => 10,
+        Command::Help => 11,
+        Command::Version => 11,
+    }
+}
+
+pub(crate) fn name(command: Command) -> Text {
+    let row = COMMANDS[place(command)];
+    let name = row.name;
+    text::of_name(&name)
+}
+
+// A line for each command, as `cards help` prints it.
+pub(crate) fn lines() -> Text {
+    let mut t = text::of(b"");
+    let mut i = 0;
+    while i < 12 {
+        t = text::and_text(t, line(i));
+        i += 1;
+    }
+    t
+}
+
+fn line(i: usize) -> Text
+    requires { ⌜ i < 12 ⌝ }
+{
+    let row = COMMANDS[i];
+    let name = row.name;
+    let help = row.help;
+    let t = text::and_text(text::of(b"  cards "), text::of_name(&name));
+    text::and(
+        text::and_text(text::to(t, 18), text::of_sentence(&help)),
+        b"\n",
+    )
+}

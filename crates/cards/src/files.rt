@@ -1,0 +1,81 @@
+// What a name leads to, as the system tells it.
+ghost use Rattle.libc.specs.Io.{Ended};
+use crate::put;
+use crate::text::Text;
+use libc::types::stat;
+use libc::types::timespec;
+use words::first;
+
+// Not good where the system does not say.
+pub(crate) struct Status {
+    pub good: bool,
+    pub device: u64,
+    pub inode: u64,
+    pub mode: u32,
+    pub owner: u32,
+    pub group: u32,
+}
+
+// What the system answers, and what it fills in.
+struct Answer {
+    done: i32,
+    of: stat,
+}
+
+// What a name leads to; a symbolic link itself, if it is not to be followed. It has fewer than 4096 bytes: no longer one
+// leads to anything.
+pub(crate) fn named(name: Text, follow: bool) -> Status {
+    let mut path = io::buffer();
+    put(&mut path, 0, first(&name.bytes, name.len));
+    path[4095] = 0;
+    status_of(told(&path, follow, blank()))
+}
+
+// Asks the system. It is the one function that lends a struct, so its proof is walked by hand.
+fn told(path: &[u8; 4096], follow: bool, mut s: stat) -> Answer
+    requires { ⌜ Ended (now path) ⌝ }
+{
+    let done = if follow {
+        libc::stat(path, &mut s)
+    } else {
+        libc::lstat(path, &mut s)
+    };
+    Answer { done: done, of: s }
+}
+
+fn status_of(a: Answer) -> Status {
+    let s = a.of;
+    Status {
+        good: a.done == 0,
+        device: s.st_dev,
+        inode: s.st_ino,
+        mode: s.st_mode,
+        owner: s.st_uid,
+        group: s.st_gid,
+    }
+}
+
+// A struct for the system to fill.
+fn blank() -> stat {
+    let t = timespec {
+        tv_sec: 0,
+        tv_nsec: 0,
+    };
+    stat {
+        st_dev: 0,
+        st_ino: 0,
+        st_nlink: 0,
+        st_mode: 0,
+        st_uid: 0,
+        st_gid: 0,
+        __pad: 0,
+        st_rdev: 0,
+        st_size: 0,
+        st_blksize: 0,
+        st_blocks: 0,
+        st_atim: t,
+        st_mtim: t,
+        st_ctim: t,
+        __unused: [0i64; 3],
+    }
+}
