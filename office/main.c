@@ -1,4 +1,4 @@
-/* The office's tool: runs the proved library crates/cards and hands its number on as the exit status. It is in C since
+/* The office's tool: runs the proved crate cards and hands its number on as the exit status. It is in C since
  * a Rattle program has no exit status: its main answers nothing. */
 #include <stdint.h>
 

@@ -73,8 +73,8 @@ under_name() {
 
 names() {
     local name
-    for name in 'two words' $'x\ndone' $'a\tb\r\e[31m\x7f\x01' -dash ';*\n%s%n' $'caf\xe9\xff' \
-        $'c1\xc2\x9b31m\xc2\x85\xc3\x80x' "it's \$(touch new)\`ls\`: done (\"done\")"; do
+    for name in 'two words' $'x\ncards: done' $'a\tb\r\e[31m\x7f\x01' -dash ';*\n%s%n' \
+        $'caf\xe9\xff\xc2\x9b31m\xc2\x85\xc3\x80x' "it's \$(touch new)\`ls\`: done (\"done\")"; do
         under_name "$name"
     done
     mkdir 'a folder' 'a folder/-x'

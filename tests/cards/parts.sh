@@ -148,8 +148,6 @@ wrong_entries() {
     wrong_entry 1 "3 $key$key\n"
     wrong_entry 1 "3 ${key:1}g\n"
     wrong_entry 1 "3 ${key:0:16} ${key:16}\n"
-    wrong_entry 1 "3:$key\n"
-    wrong_entry 1 "3$key\n"
     wrong_entry 1 "$key 3\n"
     wrong_entry 1 "3 $key\f4 $key\n"
     wrong_entry 1 "3 $key\0\n"

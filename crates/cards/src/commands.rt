@@ -1,4 +1,5 @@
 // The commands, and the table that names them.
+use crate::tables;
 use crate::text;
 use crate::text::Text;
 use words::first;
@@ -20,11 +21,10 @@ pub(crate) enum Command {
     Version,
 }
 
-// Names and sentences are filled with blanks to one width each.
+// A name is filled with blanks.
 struct CommandRow {
     command: Command,
     name: [u8; 9],
-    help: [u8; 96],
 }
 
 // In the order of their columns in the table of options.
@@ -32,64 +32,67 @@ const COMMANDS: [CommandRow; 12] = [
     CommandRow {
         command: Command::Seal,
         name: *b"seal     ",
-        help: *b"seals a text, and writes a card                                                                 ",
     },
     CommandRow {
         command: Command::Open,
         name: *b"open     ",
-        help: *b"opens a card, if its tag is right                                                               ",
     },
     CommandRow {
         command: Command::Check,
         name: *b"check    ",
-        help: *b"says whether a card opens, and writes nothing                                                   ",
     },
     CommandRow {
         command: Command::Encipher,
         name: *b"encipher ",
-        help: *b"enciphers a wide block, as a recording                                                          ",
     },
     CommandRow {
         command: Command::Decipher,
         name: *b"decipher ",
-        help: *b"deciphers it                                                                                    ",
     },
     CommandRow {
         command: Command::Digest,
         name: *b"digest   ",
-        help: *b"takes a BLAKE2b digest                                                                          ",
     },
     CommandRow {
         command: Command::Start,
         name: *b"start    ",
-        help: *b"makes a drawer of nonces                                                                        ",
     },
     CommandRow {
         command: Command::Draw,
         name: *b"draw     ",
-        help: *b"takes a nonce from it                                                                           ",
     },
     CommandRow {
         command: Command::Show,
         name: *b"show     ",
-        help: *b"shows what a drawer holds, or the parts of a card                                               ",
     },
     CommandRow {
         command: Command::Book,
         name: *b"book     ",
-        help: *b"makes a key book                                                                                ",
     },
     CommandRow {
         command: Command::Classes,
         name: *b"classes  ",
-        help: *b"lists the classes of a key book                                                                 ",
     },
     CommandRow {
         command: Command::Help,
         name: *b"help     ",
-        help: *b"tells more: cards help COMMAND, with examples                                                   ",
     },
 ];
+
+// What each does, by its place in the table.
+const SENTENCES: [u8; 405] = *b"0 seals a text, and writes a card
+1 opens a card, if its tag is right
+2 says whether a card opens, and writes nothing
+3 enciphers a wide block, as a recording
+4 deciphers it
+5 takes a BLAKE2b digest
+6 makes a drawer of nonces
+7 takes a nonce from it
+8 shows what a drawer holds, or the parts of a card
+9 makes a key book
+10 lists the classes of a key book
+11 tells more: cards help COMMAND, with examples
+";
 
 // A command that a word names, if there is one.
 pub(crate) struct Named {
@@ -118,7 +121,7 @@ fn known(command: Command) -> Named {
 fn in_table(word: &[u8]) -> Named {
     let mut i = 0;
     while i < 12 {
-        let row = COMMANDS[i];
+        let row = row_at(i);
         let name = row.name;
         if text::is_name(&name, word) {
             let command = row.command;
@@ -154,9 +157,16 @@ pub(crate) fn place(command: Command) -> usize
 }
 
 pub(crate) fn name(command: Command) -> Text {
-    let row = COMMANDS[place(command)];
+    let row = row_at(place(command));
     let name = row.name;
     text::of_name(&name)
+}
+
+// The one function that has the table in view, since each that has it costs its check.
+fn row_at(i: usize) -> CommandRow
+    requires { ⌜ i < 12 ⌝ }
+{
+    COMMANDS[i]
 }
 
 // A line for each command, as `cards help` prints it.
@@ -173,12 +183,11 @@ pub(crate) fn lines() -> Text {
 fn line(i: usize) -> Text
     requires { ⌜ i < 12 ⌝ }
 {
-    let row = COMMANDS[i];
+    let row = row_at(i);
     let name = row.name;
-    let help = row.help;
     let t = text::and_text(text::of(b"  cards "), text::of_name(&name));
     text::and(
-        text::and_text(text::to(t, 18), text::of_sentence(&help)),
+        text::and(text::to(t, 18), tables::entry(&SENTENCES, i as u64)),
         b"\n",
     )
 }

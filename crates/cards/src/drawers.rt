@@ -150,6 +150,7 @@ pub(crate) fn take(o: Options) -> Held {
     if fd < 0 {
         return not_held(not_locked());
     }
+    libc::fchmod(fd, 384); // 0600, until it gets the drawer's rights
     let h = opened(name, fd);
     let bad = h.refusal;
     if bad.number != 0 {

@@ -22,8 +22,8 @@ struct Answer {
     of: stat,
 }
 
-// What a name leads to; a symbolic link itself, if it is not to be followed. It has fewer than 4096 bytes: no longer one
-// leads to anything.
+// What a name leads to; a symbolic link itself, if it is not to be followed. A name has fewer than 4096 bytes, since
+// none that is longer leads to anything.
 pub(crate) fn named(name: Text, follow: bool) -> Status {
     let mut path = io::buffer();
     put(&mut path, 0, first(&name.bytes, name.len));

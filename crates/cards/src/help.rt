@@ -17,11 +17,12 @@ key books.
 
 ";
 
-const STATUS: [u8; 787] = *b"
+const STATUS: [u8; 844] = *b"
 The exit status is 0 exactly if all was done. Otherwise it is the number of the refusal, and
 the last line on standard error says what was refused:
     cards open --key song.key --in song.card --out song.txt || echo 'the card was refused'
-A refusal writes no output file. man cards has the numbers, and how the files are laid out.
+A refusal writes no output file. An option with -hex behind its name takes a file in hex.
+man cards has the numbers, and how the files are laid out.
 
 Examples:
     (umask 077; set -C; head -c 16 /dev/urandom > song.key; head -c 128 /dev/urandom > wide.key)
@@ -33,9 +34,7 @@ The first line makes keys that nobody else can read, and replaces none. The exam
 commands go on from there.
 ";
 
-const TAIL: [u8; 121] =
-    *b"A file in hex is named by the same option with -hex behind it, as --out-hex FILE.
-
+const TAIL: [u8; 39] = *b"
 Examples, behind those of cards help:
 ";
 

@@ -142,18 +142,33 @@ fn gave(error: usize, not_hex: bool, len: usize) -> Taken {
 fn hex_from(fd: i32, room: &mut [u8]) -> Taken {
     let mut h = hex::begin();
     let mut chunk = io::large_buffer();
-    let mut left: usize = 16777216;
+    let mut left: usize = 16777217;
     while left > 0 {
         let got = libc::read(fd, &mut chunk);
         let n = io::count(got, &chunk);
         if n == 0 {
             return ended(got, !h.good || h.half, h.len);
         }
-        h = hex::take_in(h, &chunk[..n], room);
+        h = one_by_one(h, &chunk[..n], room);
         if !h.good || h.len == room.len() {
             return gave(refusal::NO_REASON, !h.good, h.len);
         }
         left = if n < left { left - n } else { 0 };
     }
     gave(refusal::TOO_MUCH_HEX, true, 0)
+}
+
+// Takes in what comes before the first byte that is not hex, or that fills the room: that one decides, and not how the
+// input is cut into pieces.
+fn one_by_one(h: Hex, s: &[u8], room: &mut [u8]) -> Hex {
+    let mut g = h;
+    let mut i = 0;
+    while i < s.len() {
+        if !g.good || g.len == room.len() {
+            return g;
+        }
+        g = hex::take_in(g, &s[i..i + 1], room);
+        i += 1;
+    }
+    g
 }

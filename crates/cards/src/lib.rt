@@ -1,6 +1,6 @@
 // The office's tool: docs/cards.1 says what it does. It is thin: what matters is promised by the libraries below it,
 // and here inputs are read, outputs written and refusals put into words. office/main.c makes it a program with an exit
-// status, cards_run one that the gate can run.
+// status, the crate cards_run one that the gate can run.
 use commands::Command;
 use parse::Parsed;
 use refusal::Refusal;
@@ -23,18 +23,18 @@ mod rooms; // rooms.rt: the largest arrays
 mod rules; // rules.rt: which options go together
 mod sealing; // sealing.rt: seal, open and check
 mod shows; // shows.rt: show
+mod tables; // tables.rt: sentences by their numbers
 mod text; // text.rt: names and lines by value
 mod wide; // wide.rt: encipher and decipher
 
-// Does what the command line asks for. Answers 0 if that is done, or the refusal's number, as an exit status: below 256,
-// so that none but 0 looks like it.
-#[no_mangle]
-pub extern "C" fn cards_run() -> u32
+// Does what the command line asks for. Answers 0 if that is done, or else the refusal's number, as an exit status: it
+// is below 256, so that none but 0 looks like 0.
+pub fn run() -> u32
     ensures { λ r. ⌜ r < 256 ⌝ }
 {
     fill_closed();
     let p = parse::command_line();
-    let r = run(p);
+    let r = outcome(p);
     refusal::last_line(r, p);
     refusal::status(r.number)
 }
@@ -56,7 +56,7 @@ fn fill_closed() {
     }
 }
 
-fn run(p: Parsed) -> Refusal {
+fn outcome(p: Parsed) -> Refusal {
     let command = p.command;
     let bad = p.bad;
     if bad.number != 0 {

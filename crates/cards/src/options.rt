@@ -1,6 +1,7 @@
 // The options, the table that names them, and which of them are given.
 use crate::commands;
 use crate::commands::Command;
+use crate::tables;
 use crate::text;
 use crate::text::Text;
 ghost use Prim.Native.Nat.{_<_};
@@ -24,7 +25,7 @@ pub(crate) enum Opt {
     Verbose,
 }
 
-// Names, what stands behind them and sentences are filled with blanks. Each command has a column in `taken`: the option
+// Names and what stands behind them are filled with blanks. Each command has a column in `taken`: the option
 // must be given (!), may be given (x), or is not taken (.).
 struct OptionRow {
     option: Opt,
@@ -32,7 +33,6 @@ struct OptionRow {
     value: [u8; 9],
     hex: bool,
     taken: [u8; 12],
-    help: [u8; 96],
 }
 
 // The columns: seal open check encipher decipher digest start draw show book classes help.
@@ -43,7 +43,6 @@ const OPTIONS: [OptionRow; 16] = [
         value: *b"FILE     ",
         hex: true,
         taken: *b"xxx!!x......",
-        help: *b"the key: 16 bytes for a card, 128 for a wide block, 1 to 64 for a digest                        ",
     },
     OptionRow {
         option: Opt::Book,
@@ -51,7 +50,6 @@ const OPTIONS: [OptionRow; 16] = [
         value: *b"FILE     ",
         hex: true,
         taken: *b"xxx.......!.",
-        help: *b"this term's key book                                                                            ",
     },
     OptionRow {
         option: Opt::LastBook,
@@ -59,7 +57,6 @@ const OPTIONS: [OptionRow; 16] = [
         value: *b"FILE     ",
         hex: true,
         taken: *b"xxx.........",
-        help: *b"last term's, which may be left out                                                              ",
     },
     OptionRow {
         option: Opt::Nonce,
@@ -67,7 +64,6 @@ const OPTIONS: [OptionRow; 16] = [
         value: *b"FILE     ",
         hex: true,
         taken: *b"x...........",
-        help: *b"the nonce, 12 bytes, never used before under this key                                           ",
     },
     OptionRow {
         option: Opt::Iv,
@@ -75,7 +71,6 @@ const OPTIONS: [OptionRow; 16] = [
         value: *b"FILE     ",
         hex: true,
         taken: *b"...x........",
-        help: *b"the iv, 48 bytes, never used before under this key                                              ",
     },
     OptionRow {
         option: Opt::Data,
@@ -83,7 +78,6 @@ const OPTIONS: [OptionRow; 16] = [
         value: *b"FILE     ",
         hex: true,
         taken: *b"xxx.........",
-        help: *b"associated data, without which the card does not open                                           ",
     },
     OptionRow {
         option: Opt::In,
@@ -91,7 +85,6 @@ const OPTIONS: [OptionRow; 16] = [
         value: *b"FILE     ",
         hex: true,
         taken: *b"xxxxxx..xx..",
-        help: *b"what is read; standard input if it is left out or -                                             ",
     },
     OptionRow {
         option: Opt::Out,
@@ -99,7 +92,6 @@ const OPTIONS: [OptionRow; 16] = [
         value: *b"FILE     ",
         hex: true,
         taken: *b"xx.xxx.x.x..",
-        help: *b"where it is written; standard output if it is left out or -                                     ",
     },
     OptionRow {
         option: Opt::Label,
@@ -107,7 +99,6 @@ const OPTIONS: [OptionRow; 16] = [
         value: *b"WORDS    ",
         hex: false,
         taken: *b"xxx.........",
-        help: *b"the words themselves as associated data                                                         ",
     },
     OptionRow {
         option: Opt::Class,
@@ -115,7 +106,6 @@ const OPTIONS: [OptionRow; 16] = [
         value: *b"NUMBER   ",
         hex: false,
         taken: *b"xxx.........",
-        help: *b"the class whose key in the book it is                                                           ",
     },
     OptionRow {
         option: Opt::Drawer,
@@ -123,7 +113,6 @@ const OPTIONS: [OptionRow; 16] = [
         value: *b"FILE     ",
         hex: false,
         taken: *b"x..x..!!x...",
-        help: *b"the drawer that nonces and ivs are drawn from (cards help start)                                ",
     },
     OptionRow {
         option: Opt::Reader,
@@ -131,7 +120,6 @@ const OPTIONS: [OptionRow; 16] = [
         value: *b"NUMBER   ",
         hex: false,
         taken: *b"......x.....",
-        help: *b"the reader's number, below 2^32; a random one if it is left out                                 ",
     },
     OptionRow {
         option: Opt::Count,
@@ -139,7 +127,6 @@ const OPTIONS: [OptionRow; 16] = [
         value: *b"NUMBER   ",
         hex: false,
         taken: *b"......x.....",
-        help: *b"the first count to be drawn; 0 if it is left out                                                ",
     },
     OptionRow {
         option: Opt::Length,
@@ -147,7 +134,6 @@ const OPTIONS: [OptionRow; 16] = [
         value: *b"NUMBER   ",
         hex: false,
         taken: *b".....x......",
-        help: *b"1 to 64 bytes; 64 if it is left out                                                             ",
     },
     OptionRow {
         option: Opt::Force,
@@ -155,7 +141,6 @@ const OPTIONS: [OptionRow; 16] = [
         value: *b"         ",
         hex: false,
         taken: *b"xx.xxx.x.x..",
-        help: *b"replaces the file that --out names                                                              ",
     },
     OptionRow {
         option: Opt::Verbose,
@@ -163,9 +148,28 @@ const OPTIONS: [OptionRow; 16] = [
         value: *b"         ",
         hex: false,
         taken: *b"xxxxxxxxxxx.",
-        help: *b"says so if all was done                                                                         ",
     },
 ];
+
+// What each is, by its place in the table.
+const SENTENCES: [u8; 789] =
+    *b"0 the key: 16 bytes for a card, 128 for a wide block, 1 to 64 for a digest
+1 this term's key book
+2 last term's, which may be left out
+3 the nonce, 12 bytes, never used before under this key
+4 the iv, 48 bytes, never used before under this key
+5 associated data, without which the card does not open
+6 what is read; standard input if it is left out or -
+7 where it is written; standard output if it is left out or -
+8 the words themselves as associated data
+9 the class whose key in the book it is
+10 the drawer that nonces and ivs are drawn from (cards help start)
+11 the reader's number, below 2^32; a random one if it is left out
+12 the first count to be drawn; 0 if it is left out
+13 1 to 64 bytes; 64 if it is left out
+14 replaces the file that --out names
+15 says so if all was done
+";
 
 // For each option the word of the command line that has what is given, 0 if it is not given, where in that word it
 // begins, and whether it is in hex.
@@ -202,7 +206,7 @@ pub(crate) fn place(option: Opt) -> usize
 // The option in this row; the last for a row that there is not.
 pub(crate) fn at(row: usize) -> Opt {
     if row < 16 {
-        let r = OPTIONS[row];
+        let r = row_at(row);
         let option = r.option;
         return option;
     }
@@ -277,11 +281,18 @@ pub(crate) fn is_dash(o: Options, option: Opt) -> bool {
     is_stream(option) && text::is(word_of(o, option), b"-")
 }
 
+// The one function that has the table in view, since each that has it costs its check.
+fn row_at(i: usize) -> OptionRow
+    requires { ⌜ i < 16 ⌝ }
+{
+    OPTIONS[i]
+}
+
 // The row of this name, 16 if there is none.
 pub(crate) fn row_of(name: &[u8]) -> usize {
     let mut i = 0;
     while i < 16 {
-        let row = OPTIONS[i];
+        let row = row_at(i);
         let called = row.name;
         if text::is_name(&called, name) {
             return i;
@@ -293,13 +304,13 @@ pub(crate) fn row_of(name: &[u8]) -> usize {
 
 // Whether the option in this row has a twin in hex.
 pub(crate) fn has_twin(row: usize) -> bool {
-    row < 16 && OPTIONS[row].hex
+    row < 16 && row_at(row).hex
 }
 
 // How the command takes the option in this row: !, x or a dot.
 pub(crate) fn taken(command: Command, row: usize) -> u8 {
     if row < 16 {
-        let r = OPTIONS[row];
+        let r = row_at(row);
         let taken = r.taken;
         return taken[commands::place(command)];
     }
@@ -309,7 +320,7 @@ pub(crate) fn taken(command: Command, row: usize) -> u8 {
 // Whether a word stands behind the option in this row.
 pub(crate) fn has_value(row: usize) -> bool {
     if row < 16 {
-        let r = OPTIONS[row];
+        let r = row_at(row);
         let value = r.value;
         return value[0] != b' ';
     }
@@ -318,7 +329,7 @@ pub(crate) fn has_value(row: usize) -> bool {
 
 // The option's name, with its dashes.
 pub(crate) fn name(option: Opt) -> Text {
-    let row = OPTIONS[place(option)];
+    let row = row_at(place(option));
     let name = row.name;
     text::and_text(text::of(b"--"), text::of_name(&name))
 }
@@ -336,17 +347,19 @@ pub(crate) fn lines(command: Command) -> Text {
     t
 }
 
+// [-hex] stands behind the name of one that has a twin.
 fn line(i: usize) -> Text
     requires { ⌜ i < 16 ⌝ }
 {
-    let row = OPTIONS[i];
+    let row = row_at(i);
     let name = row.name;
     let value = row.value;
-    let help = row.help;
     let t = text::and_text(text::of(b"  --"), text::of_name(&name));
-    let u = text::and_text(text::and(t, b" "), text::of_name(&value));
-    text::and(
-        text::and_text(text::to(u, 20), text::of_sentence(&help)),
-        b"\n",
-    )
+    let u = if row.hex {
+        text::and(t, b"[-hex] ")
+    } else {
+        text::and(t, b" ")
+    };
+    let v = text::to(text::and_text(u, text::of_name(&value)), 26);
+    text::and(text::and(v, tables::entry(&SENTENCES, i as u64)), b"\n")
 }

@@ -112,12 +112,8 @@ fn over(o: Options, option: Opt, name: Text) -> Target {
     let why = kept_for(name);
     let replaceable = why == refusal::NO_REASON && options::is_stream(option);
     if !options::given(o, Opt::Force) {
-        let hint = if replaceable {
-            refusal::FORCE_HELPS
-        } else {
-            refusal::NO_REASON
-        };
-        return claimed(refusal::about(option, refusal::EXISTS, hint), false, false);
+        let force_helps = replaceable && !is_read(o, name);
+        return claimed(exists(option, force_helps), false, false);
     }
     if replaceable {
         return with_rights(name, true, true);
@@ -127,6 +123,27 @@ fn over(o: Options, option: Opt, name: Text) -> Target {
         false,
         false,
     )
+}
+
+fn exists(option: Opt, force_helps: bool) -> Refusal {
+    if force_helps {
+        return refusal::about(option, refusal::EXISTS, refusal::FORCE_HELPS);
+    }
+    refusal::about(option, refusal::EXISTS, refusal::NO_REASON)
+}
+
+// Whether the name leads to a file that is read as key, book, nonce, iv or data: the rows before --in.
+pub(crate) fn is_read(o: Options, name: Text) -> bool {
+    let mut row = 0;
+    while row < 6 {
+        let option = options::at(row);
+        let named = options::given(o, option) && !options::is_dash(o, option);
+        if named && names::same_file(name, options::word_of(o, option)) {
+            return true;
+        }
+        row += 1;
+    }
+    false
 }
 
 // Why a file is not replaced: it is none, it cannot be written, or it is a drawer, whose numbers could be drawn again.
@@ -219,12 +236,15 @@ pub(crate) fn put_in_place(before: Refusal, option: Opt, from: Text, to: Text) -
     refusal::by_system(option, refusal::NOT_WRITTEN)
 }
 
-// Sets the rights first, so that nobody sees the bytes with wider ones, writes all and waits until it is on the disk.
+// Writes all to a file that nobody else can read, sets its rights, and waits until it is on the disk.
 pub(crate) fn filled(o: Options, option: Opt, fd: i32, c: Target, bytes: &[u8]) -> Refusal {
+    if !sent(o, option, fd, bytes) {
+        return refusal::by_system(option, refusal::NOT_WRITTEN);
+    }
     if c.sets && !rights_set(fd, c) {
         return refusal::about(option, refusal::NOT_WRITTEN, refusal::RIGHTS);
     }
-    if sent(o, option, fd, bytes) && libc::fsync(fd) == 0 {
+    if libc::fsync(fd) == 0 {
         return refusal::none();
     }
     refusal::by_system(option, refusal::NOT_WRITTEN)

@@ -94,7 +94,7 @@ fn helped(p: Parsed, i: usize, w: Text) -> Parsed {
         return against(p, i, refusal::NO_COMMAND);
     }
     let command = named.command;
-    asking(begun(command, refusal::none()))
+    asking(ending(begun(command, refusal::none())))
 }
 
 fn asking(p: Parsed) -> Parsed {

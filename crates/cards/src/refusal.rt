@@ -1,9 +1,11 @@
 // What was refused: the number, the option or the word of the command line that it is about, and why.
 use crate::commands;
+use crate::commands::Command;
 use crate::options;
 use crate::options::Opt;
 use crate::options::Options;
 use crate::parse::Parsed;
+use crate::tables;
 use crate::text;
 use crate::text::Text;
 use libc::STDERR_FILENO;
@@ -118,299 +120,81 @@ pub(crate) const NOT_RISING: usize = 1035;
 
 pub(crate) const TOO_MANY: usize = 1036;
 
-// A number and its words, filled with blanks.
-struct Words {
-    number: usize,
-    words: [u8; 96],
-}
-
 // The words of document 01, of document 02 for 12 and 15, and the tool's own.
-const WORDS: [Words; 19] = [
-    Words {
-        number: 1,
-        words: *b"key has a wrong length                                                                          ",
-    },
-    Words {
-        number: 2,
-        words: *b"nonce or iv has a wrong length                                                                  ",
-    },
-    Words {
-        number: 3,
-        words: *b"associated data too long                                                                        ",
-    },
-    Words {
-        number: 4,
-        words: *b"text or block length not allowed                                                                ",
-    },
-    Words {
-        number: 6,
-        words: *b"room too short (digest: not 1 to 64)                                                            ",
-    },
-    Words {
-        number: 7,
-        words: *b"opening: tag is not the recomputed one                                                          ",
-    },
-    Words {
-        number: 9,
-        words: *b"drawer spent                                                                                    ",
-    },
-    Words {
-        number: 10,
-        words: *b"either key book badly formed                                                                    ",
-    },
-    Words {
-        number: 11,
-        words: *b"neither book has an entry for the class                                                         ",
-    },
-    Words {
-        number: 12,
-        words: *b"cut short                                                                                       ",
-    },
-    Words {
-        number: 15,
-        words: *b"bytes left over                                                                                 ",
-    },
-    Words {
-        number: 101,
-        words: *b"command line not understood                                                                     ",
-    },
-    Words {
-        number: 102,
-        words: *b"cannot be read                                                                                  ",
-    },
-    Words {
-        number: 103,
-        words: *b"exists already                                                                                  ",
-    },
-    Words {
-        number: 104,
-        words: *b"cannot be written                                                                               ",
-    },
-    Words {
-        number: 105,
-        words: *b"not hex                                                                                         ",
-    },
-    Words {
-        number: 106,
-        words: *b"drawer file damaged                                                                             ",
-    },
-    Words {
-        number: 107,
-        words: *b"drawer in use                                                                                   ",
-    },
-    Words {
-        number: 108,
-        words: *b"entries not understood                                                                          ",
-    },
-];
+const WORDS: [u8; 495] = *b"1 key has a wrong length
+2 nonce or iv has a wrong length
+3 associated data too long
+4 text or block length not allowed
+6 room too short (digest: not 1 to 64)
+7 opening: tag is not the recomputed one
+9 drawer spent
+10 either key book badly formed
+11 neither book has an entry for the class
+12 cut short
+15 bytes left over
+101 command line not understood
+102 cannot be read
+103 exists already
+104 cannot be written
+105 not hex
+106 drawer file damaged
+107 drawer in use
+108 entries not understood
+";
 
-// The reasons in brackets.
-const REASONS: [Words; 51] = [
-    Words {
-        number: 1,
-        words: *b"permission denied                                                                               ",
-    },
-    Words {
-        number: 2,
-        words: *b"no such file or directory                                                                       ",
-    },
-    Words {
-        number: 5,
-        words: *b"input or output error                                                                           ",
-    },
-    Words {
-        number: 9,
-        words: *b"not open                                                                                        ",
-    },
-    Words {
-        number: 13,
-        words: *b"permission denied                                                                               ",
-    },
-    Words {
-        number: 17,
-        words: *b"it is there                                                                                     ",
-    },
-    Words {
-        number: 20,
-        words: *b"not a directory                                                                                 ",
-    },
-    Words {
-        number: 21,
-        words: *b"a directory                                                                                     ",
-    },
-    Words {
-        number: 22,
-        words: *b"not a name or a place that can be used                                                          ",
-    },
-    Words {
-        number: 24,
-        words: *b"too many open files                                                                             ",
-    },
-    Words {
-        number: 27,
-        words: *b"file too large                                                                                  ",
-    },
-    Words {
-        number: 28,
-        words: *b"no space left                                                                                   ",
-    },
-    Words {
-        number: 30,
-        words: *b"read-only file system                                                                           ",
-    },
-    Words {
-        number: 36,
-        words: *b"name too long                                                                                   ",
-    },
-    Words {
-        number: 40,
-        words: *b"too many links                                                                                  ",
-    },
-    Words {
-        number: NO_COMMAND,
-        words: *b"no such command                                                                                 ",
-    },
-    Words {
-        number: NO_SUCH_OPTION,
-        words: *b"no such option here                                                                             ",
-    },
-    Words {
-        number: TWICE,
-        words: *b"given twice                                                                                     ",
-    },
-    Words {
-        number: NO_VALUE,
-        words: *b"the word behind it is missing                                                                   ",
-    },
-    Words {
-        number: NEEDED,
-        words: *b"needed                                                                                          ",
-    },
-    Words {
-        number: NOT_TOGETHER,
-        words: *b"not together with what else is given                                                            ",
-    },
-    Words {
-        number: NO_NUMBER,
-        words: *b"not a number, or too large                                                                      ",
-    },
-    Words {
-        number: STANDARD_INPUT_TAKEN,
-        words: *b"standard input is read for another input                                                        ",
-    },
-    Words {
-        number: TOO_LONG,
-        words: *b"a word is longer than 4096 bytes                                                                ",
-    },
-    Words {
-        number: DRAWERS_OWN,
-        words: *b"the drawer, or the file beside it                                                               ",
-    },
-    Words {
-        number: IS_INPUT,
-        words: *b"a file that is read as key, book, nonce, iv or data                                             ",
-    },
-    Words {
-        number: CLOSED,
-        words: *b"closed, or a directory                                                                          ",
-    },
-    Words {
-        number: LINK,
-        words: *b"a symbolic link                                                                                 ",
-    },
-    Words {
-        number: SPECIAL,
-        words: *b"not a regular file                                                                              ",
-    },
-    Words {
-        number: DRAWER_FILE,
-        words: *b"a drawer file                                                                                   ",
-    },
-    Words {
-        number: TERMINAL,
-        words: *b"a terminal: name a file, or - to write there all the same                                       ",
-    },
-    Words {
-        number: FORCE_HELPS,
-        words: *b"--force replaces it                                                                             ",
-    },
-    Words {
-        number: RIGHTS,
-        words: *b"its rights cannot be kept                                                                       ",
-    },
-    Words {
-        number: DRAWS,
-        words: *b"another cards draws: try again; if none runs, remove the file with .next behind its name        ",
-    },
-    Words {
-        number: RANDOM,
-        words: *b"the system's random source                                                                      ",
-    },
-    Words {
-        number: TOO_MUCH_HEX,
-        words: *b"more than 16777216 characters                                                                   ",
-    },
-    Words {
-        number: WRONG_TAG,
-        words: *b"another key, another label or data, or the card was changed                                     ",
-    },
-    Words {
-        number: KEY_16,
-        words: *b"must be 16 bytes                                                                                ",
-    },
-    Words {
-        number: KEY_128,
-        words: *b"must be 128 bytes                                                                               ",
-    },
-    Words {
-        number: KEY_64,
-        words: *b"must be 1 to 64 bytes                                                                           ",
-    },
-    Words {
-        number: NONCE_12,
-        words: *b"must be 12 bytes                                                                                ",
-    },
-    Words {
-        number: IV_48,
-        words: *b"must be 48 bytes                                                                                ",
-    },
-    Words {
-        number: DATA_65536,
-        words: *b"must be 65536 bytes or fewer                                                                    ",
-    },
-    Words {
-        number: CARD_65535,
-        words: *b"must be 65535 bytes or fewer                                                                    ",
-    },
-    Words {
-        number: BLOCK,
-        words: *b"must be 33 to 1048608 bytes                                                                     ",
-    },
-    Words {
-        number: WIDE_FILE,
-        words: *b"must be 81 to 1048656 bytes                                                                     ",
-    },
-    Words {
-        number: TEXT_1048576,
-        words: *b"must be 1048576 bytes or fewer                                                                  ",
-    },
-    Words {
-        number: BAD_CLASS,
-        words: *b"its class is not a number below 65536                                                           ",
-    },
-    Words {
-        number: BAD_KEY,
-        words: *b"its key is not 32 digits of hex                                                                 ",
-    },
-    Words {
-        number: NOT_RISING,
-        words: *b"its class does not rise                                                                         ",
-    },
-    Words {
-        number: TOO_MANY,
-        words: *b"more than 65535                                                                                 ",
-    },
-];
+// Numbers up to 1000 are the system's errors.
+const REASONS: [u8; 1530] = *b"1 permission denied
+2 no such file or directory
+5 input or output error
+9 not open
+13 permission denied
+17 it is there
+20 not a directory
+21 a directory
+22 not a name or a place that can be used
+24 too many open files
+27 file too large
+28 no space left
+30 read-only file system
+36 name too long
+40 too many links
+1001 no such command
+1002 no such option here
+1003 given twice
+1004 the word behind it is missing
+1005 needed
+1006 not together with what else is given
+1007 not a number, or too large
+1008 standard input is read for another input
+1009 a word is longer than 4096 bytes
+1010 the drawer, or the file beside it
+1011 a file that is read as key, book, nonce, iv or data
+1012 closed, or a directory
+1013 a symbolic link
+1014 not a regular file
+1015 a drawer file
+1016 a terminal: name a file, or - to write there all the same
+1017 --force replaces it
+1018 its rights cannot be kept
+1019 another cards draws: try again; if none runs, remove the file with .next behind its name
+1020 the system's random source
+1021 more than 16777216 characters
+1022 another key, another label or data, or the card was changed
+1023 must be 16 bytes
+1024 must be 128 bytes
+1025 must be 1 to 64 bytes
+1026 must be 12 bytes
+1027 must be 48 bytes
+1028 must be 65536 bytes or fewer
+1029 must be 65535 bytes or fewer
+1030 must be 33 to 1048608 bytes
+1031 must be 81 to 1048656 bytes
+1032 must be 1048576 bytes or fewer
+1033 its class is not a number below 65536
+1034 its key is not 32 digits of hex
+1035 its class does not rise
+1036 more than 65535
+";
 
 // Nothing.
 pub(crate) fn none() -> Refusal {
@@ -545,8 +329,16 @@ fn reason(r: Refusal, p: Parsed) -> Text {
     if r.number != COMMAND_LINE {
         return words;
     }
-    let on = text::and_text(words, text::of(b"; see cards help "));
-    text::and_text(on, commands::name(command))
+    text::and_text(text::and(words, b"; see cards help"), of_command(command))
+}
+
+// Behind `cards help`: the command, if one was understood.
+fn of_command(command: Command) -> Text {
+    match command {
+        Command::Help => text::of(b""),
+        Command::Version => text::of(b""),
+        _ => text::and_text(text::of(b" "), commands::name(command)),
+    }
 }
 
 fn entry_of(entry: u64) -> Text {
@@ -564,39 +356,13 @@ fn in_brackets(reason: Text) -> Text {
 }
 
 fn reason_of(why: usize) -> Text {
-    if why == NO_REASON {
-        return text::of(b"");
+    let reason = text::of(tables::entry(&REASONS, why as u64));
+    if reason.len == 0 && why != NO_REASON {
+        return text::number(b"error ", why as u64, b"");
     }
-    let mut i = 0;
-    while i < 51 {
-        let row = reason_at(i);
-        if row.number == why {
-            return sentence(row);
-        }
-        i += 1;
-    }
-    text::number(b"error ", why as u64, b"")
+    reason
 }
 
 fn words_of(number: u32) -> Text {
-    let mut i = 0;
-    while i < 19 {
-        let row = WORDS[i];
-        if row.number == number as usize {
-            return sentence(row);
-        }
-        i += 1;
-    }
-    text::of(b"")
-}
-
-fn reason_at(i: usize) -> Words
-    requires { ⌜ i < 51 ⌝ }
-{
-    REASONS[i]
-}
-
-fn sentence(row: Words) -> Text {
-    let words = row.words;
-    text::of_sentence(&words)
+    text::of(tables::entry(&WORDS, number as u64))
 }

@@ -7,6 +7,7 @@ use crate::options;
 use crate::options::Opt;
 use crate::options::Options;
 use crate::options::given;
+use crate::outputs;
 use crate::refusal;
 use crate::refusal::Refusal;
 use crate::refusal::or;
@@ -164,20 +165,10 @@ fn not_in_drawer(o: Options) -> Refusal {
     refusal::none()
 }
 
-// Nor does it replace a file that is read beside --in.
+// Nor does it replace a file that is read, but for that of --in.
 fn not_over_input(o: Options) -> Refusal {
-    if !given(o, Opt::Force) || !has_file(o) {
-        return refusal::none();
-    }
-    let out = options::word_of(o, Opt::Out);
-    let mut row = 0;
-    while row < 6 {
-        let option = options::at(row);
-        let named = given(o, option) && !options::is_dash(o, option);
-        if named && names::same_file(out, options::word_of(o, option)) {
-            return against(Opt::Out, refusal::IS_INPUT);
-        }
-        row += 1;
+    if given(o, Opt::Force) && has_file(o) && outputs::is_read(o, options::word_of(o, Opt::Out)) {
+        return against(Opt::Out, refusal::IS_INPUT);
     }
     refusal::none()
 }

@@ -27,8 +27,12 @@ pub(crate) fn show(o: Options) -> Refusal {
 // Only a regular file is opened: to open a pipe could take forever.
 fn show_drawer(name: Text) -> Refusal {
     let s = names::status(name, true);
-    if s.good && outputs::kind_of(s) != refusal::NO_REASON {
-        return refusal::about(Opt::Drawer, refusal::DAMAGED, outputs::kind_of(s));
+    let kind = outputs::kind_of(s);
+    if s.good && kind == refusal::A_DIRECTORY {
+        return refusal::about(Opt::Drawer, refusal::NOT_READ, kind);
+    }
+    if s.good && kind != refusal::NO_REASON {
+        return refusal::about(Opt::Drawer, refusal::DAMAGED, kind);
     }
     let fd = names::open_read(name);
     if fd < 0 {

@@ -77,11 +77,6 @@ pub(crate) fn of_name(name: &[u8; 9]) -> Text {
     of(without_blanks(name))
 }
 
-// The same of a sentence.
-pub(crate) fn of_sentence(sentence: &[u8; 96]) -> Text {
-    of(without_blanks(sentence))
-}
-
 fn without_blanks(s: &[u8]) -> &[u8] {
     first(s, filled(s))
 }

@@ -3,6 +3,7 @@ use borrow.Author.Needs.{needs}
 use Rattle.cards.proofs.commands.in_table.Statement.{statement}
 use Rattle.cards.proofs.commands.in_table.Tie as tie
 use Rattle.cards.proofs.commands.known.Reads as known-reads
+use Rattle.cards.proofs.commands.row_at.Reads as row-at-reads
 use Rattle.cards.proofs.text.is_name.Reads as is-name-reads
 
 abbrev Inv-loop : tie.InvT-loop
@@ -14,11 +15,8 @@ abbrev μ-loop : tie.MeasureT-loop
 loop-holds : tie.Need-loop-holds Inv-loop μ-loop
 loop-holds c = search needs
 
-mul-row : tie.Need-mul-row Inv-loop μ-loop
-mul-row c = search needs
-
-array-copy-out-row : tie.Need-array-copy-out-row Inv-loop μ-loop
-array-copy-out-row c = search needs
+row-at-requires : tie.Need-row-at-requires Inv-loop μ-loop
+row-at-requires c κs = search needs
 
 is-name-requires : tie.Need-is-name-requires Inv-loop μ-loop
 is-name-requires c κs = search needs
@@ -48,8 +46,7 @@ in-table-spec =
     Inv-loop
     μ-loop
     loop-holds
-    mul-row
-    array-copy-out-row
+    row-at-requires
     is-name-requires
     known-requires
     returns

@@ -6,8 +6,8 @@ use Rattle.cards.proofs.inputs.hex_from.Statement.{statement}
 use Rattle.cards.proofs.inputs.hex_from.Tie as tie
 use Rattle.cards.proofs.inputs.ended.Reads as ended-reads
 use Rattle.cards.proofs.inputs.gave.Reads as gave-reads
+use Rattle.cards.proofs.inputs.one_by_one.Reads as one-by-one-reads
 use Rattle.hex.proofs.begin.Reads as begin-reads
-use Rattle.hex.proofs.take_in.Reads as take-in-reads
 use Rattle.io.proofs.count.Reads as count-reads
 use Rattle.io.proofs.large_buffer.Reads as large-buffer-reads
 use Rattle.libc.proofs.read.Reads as read-reads
@@ -51,11 +51,11 @@ returns c = search needs
 array-share-prefix-chunk : tie.Need-array-share-prefix-chunk Inv-loop μ-loop
 array-share-prefix-chunk c = search needs
 
-slice-aggregate-take-in : tie.Need-slice-aggregate-take-in Inv-loop μ-loop
-slice-aggregate-take-in c = search needs
+slice-aggregate-one-by-one : tie.Need-slice-aggregate-one-by-one Inv-loop μ-loop
+slice-aggregate-one-by-one c = search needs
 
-take-in-requires : tie.Need-take-in-requires Inv-loop μ-loop
-take-in-requires c κs = search needs
+one-by-one-requires : tie.Need-one-by-one-requires Inv-loop μ-loop
+one-by-one-requires c κs = search needs
 
 gave-requires : tie.Need-gave-requires Inv-loop μ-loop
 gave-requires c κs = search needs
@@ -107,8 +107,8 @@ hex-from-spec =
     same-length
     returns
     array-share-prefix-chunk
-    slice-aggregate-take-in
-    take-in-requires
+    slice-aggregate-one-by-one
+    one-by-one-requires
     gave-requires
     same-length-2
     returns-2

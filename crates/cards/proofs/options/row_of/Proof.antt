@@ -2,6 +2,7 @@ use Prim.Native.Nat.{_-_}
 use borrow.Author.Needs.{needs}
 use Rattle.cards.proofs.options.row_of.Statement.{statement}
 use Rattle.cards.proofs.options.row_of.Tie as tie
+use Rattle.cards.proofs.options.row_at.Reads as row-at-reads
 use Rattle.cards.proofs.text.is_name.Reads as is-name-reads
 
 abbrev Inv-loop : tie.InvT-loop
@@ -13,11 +14,8 @@ abbrev μ-loop : tie.MeasureT-loop
 loop-holds : tie.Need-loop-holds Inv-loop μ-loop
 loop-holds c = search needs
 
-mul-row : tie.Need-mul-row Inv-loop μ-loop
-mul-row c = search needs
-
-array-copy-out-row : tie.Need-array-copy-out-row Inv-loop μ-loop
-array-copy-out-row c = search needs
+row-at-requires : tie.Need-row-at-requires Inv-loop μ-loop
+row-at-requires c κs = search needs
 
 is-name-requires : tie.Need-is-name-requires Inv-loop μ-loop
 is-name-requires c κs = search needs
@@ -44,8 +42,7 @@ row-of-spec =
     Inv-loop
     μ-loop
     loop-holds
-    mul-row
-    array-copy-out-row
+    row-at-requires
     is-name-requires
     returns
     add-i
