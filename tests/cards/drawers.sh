@@ -163,6 +163,11 @@ damaged_drawers() {
     refused 106 '--drawer song' draw --drawer song
     ln -s good link
     no_drawer link
+    ln good second
+    no_drawer good
+    no_drawer second
+    reason_is 'it has another name too, a hard link'
+    rm second
     ln -s nowhere loose
     refused 106 '--drawer loose' draw --drawer loose
     mkdir folder
@@ -179,22 +184,29 @@ damaged_drawers() {
 drawers_in_use() {
     setting
     works start --drawer d --reader 42
-    : >d.next
+    mkdir d.next
     refused 107 '--drawer d' draw --drawer d
     refused 107 '--drawer d' draw --drawer d --out new
     refused 107 '--drawer d' seal --key k --drawer d --in song --out new
     refused 107 '--drawer d' encipher --key wk --drawer d --in wk --out new
     # Whatever was in it when one was killed, it is not taken for the drawer.
-    cp d d.next
+    cp d d.next/state
     refused 107 '--drawer d' draw --drawer d
-    rm d.next
-    ln -s nowhere d.next
-    refused 107 '--drawer d' draw --drawer d
-    rm d.next
-    mkdir d.next
-    refused 107 '--drawer d' draw --drawer d
-    rmdir d.next
+    rm -r d.next
+    # Nobody is told to remove what only has the name.
+    in_the_way 'cp song d.next'
+    in_the_way 'cp d d.next'
+    in_the_way 'ln -s nowhere d.next'
+    in_the_way 'ln -s . d.next'
     draws 2a0000000000000000000000
+}
+
+# in_the_way COMMAND, which makes d.next.
+in_the_way() {
+    eval "$1"
+    refused 107 '--drawer d' draw --drawer d
+    reason_is 'what has .next behind its name is in the way, and is not another cards that draws'
+    rm d.next
 }
 
 # The number is spent where it could not be written; and where the state could not be written, no number is.
@@ -287,7 +299,7 @@ draws_killed() {
         if [ "$status" -eq 0 ]; then is 'characters in a whole line' 25 "$(wc -c <one)"; fi
         [[ $status == 0 || $status == 137 ]] || fail 'exit status 0 or 137' "$status"
         [ ! -s one ] || echo "$(<one)" >>numbers # the end of the line may be missing
-        rm -f d.next
+        rm -rf d.next
     done
     works draw --drawer d
     cat "$out" >>numbers

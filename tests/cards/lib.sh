@@ -24,7 +24,7 @@ declare -A words=(
 # The reasons that always stand behind a number.
 declare -A always=(
     [7]='another key, another label or data, or the card was changed'
-    [107]='another cards draws: try again; if none runs, remove the file with .next behind its name'
+    [107]='another cards draws: try again; if none runs, remove the folder with .next behind its name'
 )
 
 commands=(seal open check encipher decipher digest start draw show book classes)
@@ -190,7 +190,7 @@ reason_is() {
 
 # reason_fits NUMBER ": INPUT (REASON)"
 reason_fits() {
-    [ -z "${always[$1]-}" ] || reason_is "${always[$1]}"
+    [ -z "${always[$1]-}" ] || [[ $2 == *'is in the way'* ]] || reason_is "${always[$1]}"
     case $1 in
     101) names_help "$2" ;;
     103) names_force "$2" ;;

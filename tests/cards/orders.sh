@@ -117,7 +117,7 @@ faulty_setting() {
     works start --drawer d --reader 42
     works start --drawer spent --reader 42 --count 18446744073709551615
     works start --drawer held --reader 42
-    : >held.next
+    mkdir held.next
     : >exists
 }
 
@@ -157,5 +157,5 @@ two_faults() {
     pairs digest "$digest_faults"
     pairs draw "$draw_faults"
     pairs book "$book_faults"
-    rm held.next
+    rmdir held.next
 }

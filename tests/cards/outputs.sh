@@ -71,7 +71,8 @@ outputs_that_are_drawers() {
     refused 101 '*' draw --drawer "$PWD/d" --out d.next --force
     refused 101 '*' draw --drawer linked/d --out folder/../d.next --force
     ln d same-drawer
-    refused 101/104 '--out same-drawer' draw --drawer d --out same-drawer --force
+    refused 106 '--drawer d' draw --drawer d --out same-drawer --force
+    rm same-drawer
     # A file of another folder is another file.
     works draw --drawer d --out folder/d.next
     works draw --drawer d --out folder/d
@@ -107,6 +108,7 @@ outputs_that_are_inputs() {
     refused 101 '*' digest --key k --in song --out linked/k --force
     refused 101 '*' digest --key-hex b.hex --in song --out ./b.hex --force
     refused 101 '*' decipher --key wk.linked --in wk --out wk --force
+    refused 101 '*' seal --key - --nonce n --in song --out k --force <k
     # The file that --in names can be replaced, under any of its names that is no link.
     works seal --key k --nonce n --in song --out linked/song --force
     is 'the card' "$known_card" "$(hex_of song)"
@@ -164,6 +166,13 @@ in_shared_folder() {
     refused_to_nobody 104 '--out sys' digest --in card --out sys --force
     works digest --in card --out sys --force
     is 'group and rights' '3 644' "$(stat -c '%g %a' sys)"
+    # What is drawn from a folder that cannot be read could not be brought to the disk.
+    mkdir closed
+    chown 65534 closed
+    as_nobody works start --drawer closed/d --reader 7
+    chmod 300 closed
+    refused_to_nobody 104 '--drawer closed/d' draw --drawer closed/d
+    drawer_is closed/d 07000000 0000000000000000
     as_nobody works start --drawer theirs --reader 7
     works draw --drawer theirs
     is 'group and rights' '65534 644' "$(stat -c '%g %a' theirs)"
@@ -210,6 +219,9 @@ terminals() {
         is 'what is written to the terminal' '' "$(hex_of "$out")"
     done
     drawer_is d 2a000000 0000000000000000 # nothing was drawn
+    # Nobody types a text that is then refused for that.
+    typed 'Three ducks\n\004' seal --key k --drawer d
+    says_refused 104 'standard output'
     written_to_terminals
     read_from_terminals
 }

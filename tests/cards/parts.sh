@@ -119,8 +119,6 @@ made_books() {
     makes_book "3 $aa\n" 3:aa
     makes_book "0 $aa\n7 $bb\n65535 $aa\n" 0:aa 7:0b 65535:aa
     makes_book "\n\n \t3\t\t${aa^^}\r\n256\n$bb 257 $aa" 3:aa 256:0b 257:aa
-    makes_book ''
-    makes_book ' \n'
     # It is a book like others, and its keys seal.
     makes_book "3 $aa\n7 $bb\n" 3:aa 7:0b
     opens_under 0b --book made --class 7
@@ -129,6 +127,10 @@ made_books() {
     works book <entries
     same made "$out"
     refused 103 '--out made' book --in entries --out made
+    # As where what was to sort the entries has failed.
+    refused 108 'standard input' book --out made --force </dev/null
+    reason_is 'there is none'
+    refused 108 'standard input' book --out made --force < <(blanks 9)
     wrong_entries "$aa"
     listed_books
 }

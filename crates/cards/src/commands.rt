@@ -80,10 +80,10 @@ const COMMANDS: [CommandRow; 12] = [
 ];
 
 // What each does, by its place in the table.
-const SENTENCES: [u8; 405] = *b"0 seals a text, and writes a card
+const SENTENCES: [u8; 410] = *b"0 seals a text, and writes a card
 1 opens a card, if its tag is right
 2 says whether a card opens, and writes nothing
-3 enciphers a wide block, as a recording
+3 enciphers a wide block, such as a recording
 4 deciphers it
 5 takes a BLAKE2b digest
 6 makes a drawer of nonces

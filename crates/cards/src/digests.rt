@@ -5,7 +5,6 @@ use crate::options;
 use crate::options::Opt;
 use crate::options::Options;
 use crate::outputs;
-use crate::outputs::Kind;
 use crate::refusal;
 use crate::refusal::Refusal;
 use crate::rooms;
@@ -29,12 +28,7 @@ fn digest_of(before: Refusal, o: Options, key: &[u8], text: &[u8]) -> Refusal {
     let mut room = [0u8; 65];
     let n = length(o);
     let number = blake::digest(key, text, first_mut(&mut room, n));
-    outputs::finish(
-        refused(number),
-        options::printed(o),
-        Kind::Text,
-        first(&room, n),
-    )
+    outputs::finish(refused(number), options::printed(o), false, first(&room, n))
 }
 
 // The length that is asked for; one that is too large is 65, which is refused like any.

@@ -1,12 +1,13 @@
-// The drawer file: its state is replaced before the number that it gave is used, and while that is under way a file
+// The drawer file: its state is replaced before the number that it gave is used, and while that is under way a folder
 // beside it keeps every other `cards` from drawing.
+use crate::files;
+use crate::files::Status;
 use crate::inputs;
 use crate::names;
 use crate::options;
 use crate::options::Opt;
 use crate::options::Options;
 use crate::outputs;
-use crate::outputs::Kind;
 use crate::outputs::Target;
 use crate::refusal;
 use crate::refusal::Refusal;
@@ -14,10 +15,9 @@ use crate::text;
 use crate::text::Text;
 use drawer::Drawer;
 use drawer_file::Recalled;
-use libc::STDOUT_FILENO;
 use words::first;
 
-// What was refused, or the drawer, and the file beside it, open for its next state.
+// What was refused, or the drawer, and the file in the folder beside it, open for its next state.
 pub(crate) struct Held {
     pub refusal: Refusal,
     pub drawer: Drawer,
@@ -38,8 +38,8 @@ pub(crate) fn start(o: Options) -> Refusal {
         return r;
     }
     let d = drawer::start(chosen.reader, inputs::number(o, Opt::Count).value);
-    let c = outputs::claim_name(o, Opt::Drawer, Kind::Text);
-    started(c, o, d)
+    let target = outputs::claim_name(o, Opt::Drawer, false);
+    started(target, o, d)
 }
 
 // The number that is given, or one from the system's random source.
@@ -65,27 +65,29 @@ fn no_random(bad: bool) -> Refusal {
     refusal::none()
 }
 
-// The name is taken; a number that nobody gave is said before the drawer is there.
-fn started(c: Target, o: Options, d: Drawer) -> Refusal {
-    let bad = c.refusal;
+// A number that nobody gave is said when the drawer is there, and the drawer removed if that fails.
+fn started(target: Target, o: Options, d: Drawer) -> Refusal {
+    let bad = target.refusal;
     if bad.number != 0 {
         return bad;
     }
     let file = drawer_file::keep(d);
-    let r = reader_said(o, d.reader);
+    let r = outputs::write_file(o, Opt::Drawer, target, &file);
     if r.number != 0 {
-        outputs::release(o, Opt::Drawer, c);
         return r;
     }
-    outputs::write_file(o, Opt::Drawer, c, &file)
+    let s = reader_said(o, d.reader);
+    if s.number != 0 {
+        names::unlink(options::word_of(o, Opt::Drawer));
+    }
+    s
 }
 
 fn reader_said(o: Options, reader: u32) -> Refusal {
     if options::given(o, Opt::Reader) {
         return refusal::none();
     }
-    let line = text::number(b"reader ", reader as u64, b"\n");
-    outputs::printed(io::write_all(STDOUT_FILENO, first(&line.bytes, line.len)))
+    outputs::said(text::number(b"reader ", reader as u64, b"\n"))
 }
 
 // Draws a number and writes it.
@@ -98,14 +100,7 @@ pub(crate) fn draw(o: Options) -> Refusal {
     let drawn = drawer::draw(h.drawer);
     let number = drawn.bytes;
     let next = drawn.next;
-    spend(
-        options::printed(o),
-        h,
-        next,
-        Kind::Text,
-        spent(drawn.number),
-        &number,
-    )
+    spend(options::printed(o), h, next, spent(drawn.number), &number)
 }
 
 // What the number of a draw refuses.
@@ -117,40 +112,58 @@ pub(crate) fn spent(number: u32) -> Refusal {
 }
 
 // Keeps the next state, and then writes the output. Where something was refused, the drawer stays as it was.
-pub(crate) fn spend(
-    o: Options,
-    h: Held,
-    next: Drawer,
-    kind: Kind,
-    bad: Refusal,
-    bytes: &[u8],
-) -> Refusal {
-    let c = outputs::claim(bad, o, kind);
-    let taken = c.refusal;
+pub(crate) fn spend(o: Options, h: Held, next: Drawer, bad: Refusal, bytes: &[u8]) -> Refusal {
+    let target = outputs::claim(bad, o, false);
+    let taken = target.refusal;
     if taken.number != 0 {
         let_go(o, h.fd);
         return taken;
     }
     let kept = keep(o, h.fd, next);
     if kept.number != 0 {
-        outputs::release(o, Opt::Out, c);
+        outputs::release(target);
         return kept;
     }
-    outputs::write(c, o, bytes)
+    outputs::write(target, o, bytes)
 }
 
-// Takes the drawer: nobody else can until it is kept or let go. A new state would take a symbolic link's place and
-// leave the old one where it leads, to be drawn from again.
+// Takes the drawer: nobody else can until it is kept or let go.
 pub(crate) fn take(o: Options) -> Held {
     let name = options::word_of(o, Opt::Drawer);
-    if outputs::kind_of(names::status(name, false)) == refusal::LINK {
-        return not_held(refusal::about(Opt::Drawer, refusal::DAMAGED, refusal::LINK));
+    let r = not_alone(names::status(name, false));
+    if r.number != 0 {
+        return not_held(r);
     }
-    let fd = names::create(beside(o));
+    let folder = names::open_read(names::folder(name));
+    if folder < 0 {
+        return not_held(not_locked(o)); // what is drawn could not be brought to the disk
+    }
+    libc::close(folder);
+    if files::make_private(beside(o)) != 0 {
+        return not_held(not_locked(o));
+    }
+    taken(o, name, names::create(state(o)))
+}
+
+// A new state would take a symbolic link's place, or that of one of two names, and leave the old state under the other,
+// to be drawn from again.
+fn not_alone(s: Status) -> Refusal {
+    let kind = outputs::kind_of(s);
+    if kind == refusal::LINK {
+        return refusal::about(Opt::Drawer, refusal::DAMAGED, refusal::LINK);
+    }
+    if kind == refusal::NO_REASON && s.links > 1 {
+        return refusal::about(Opt::Drawer, refusal::DAMAGED, refusal::TWO_NAMES);
+    }
+    refusal::none()
+}
+
+fn taken(o: Options, name: Text, fd: i32) -> Held {
     if fd < 0 {
-        return not_held(not_locked());
+        let r = refusal::by_system(Opt::Drawer, refusal::NOT_WRITTEN);
+        names::rmdir(beside(o));
+        return not_held(r);
     }
-    libc::fchmod(fd, 384); // 0600, until it gets the drawer's rights
     let h = opened(name, fd);
     let bad = h.refusal;
     if bad.number != 0 {
@@ -167,15 +180,23 @@ fn not_held(r: Refusal) -> Held {
     }
 }
 
-fn not_locked() -> Refusal {
+fn not_locked(o: Options) -> Refusal {
     let e = os::errno();
     if e == libc::EEXIST {
-        return refusal::about(Opt::Drawer, refusal::IN_USE, refusal::DRAWS);
+        return in_use(names::status(beside(o), false));
     }
     if e == libc::ENOENT || e == libc::ENOTDIR {
         return refusal::by_system(Opt::Drawer, refusal::NOT_READ);
     }
     refusal::by_system(Opt::Drawer, refusal::NOT_WRITTEN)
+}
+
+// Only a folder is another's that draws; anything else has the name by chance, and nobody is told to remove it.
+fn in_use(s: Status) -> Refusal {
+    if outputs::kind_of(s) == refusal::A_DIRECTORY {
+        return refusal::about(Opt::Drawer, refusal::IN_USE, refusal::DRAWS);
+    }
+    refusal::about(Opt::Drawer, refusal::IN_USE, refusal::IN_THE_WAY)
 }
 
 fn opened(name: Text, fd: i32) -> Held {
@@ -222,47 +243,36 @@ fn read_start(fd: i32, room: &mut [u8]) -> usize {
     io::count(libc::pread(fd, room, 0), room)
 }
 
-// The name of the file that keeps the others out.
+// The name of the folder that keeps the others out, and that of the next state in it, which nobody else can reach.
 pub(crate) fn beside(o: Options) -> Text {
     names::beside(options::word_of(o, Opt::Drawer), b".next")
+}
+
+fn state(o: Options) -> Text {
+    text::and(beside(o), b"/state")
 }
 
 // Puts the next state in the drawer's place, with its rights, and waits until that is on the disk.
 fn keep(o: Options, fd: i32, next: Drawer) -> Refusal {
     let name = options::word_of(o, Opt::Drawer);
     let file = drawer_file::keep(next);
-    let r = outputs::filled(
-        o,
-        Opt::Drawer,
-        fd,
-        outputs::with_rights(name, true, true),
-        &file,
-    );
-    let s = outputs::put_in_place(r, Opt::Drawer, beside(o), name);
+    let r = outputs::filled(o, Opt::Drawer, fd, outputs::replacing(name), &file);
+    let s = outputs::put_in_place(r, Opt::Drawer, true, state(o), name);
     if s.number != 0 {
         let_go(o, fd);
         return s;
     }
     libc::close(fd);
-    renamed(name)
-}
-
-// Waits until the renaming is on the disk. A file system that has no such call says EINVAL.
-fn renamed(name: Text) -> Refusal {
-    let fd = names::open_read(names::folder(name));
-    if fd < 0 {
-        return refusal::by_system(Opt::Drawer, refusal::NOT_WRITTEN);
-    }
-    let done = libc::fsync(fd);
-    let e = os::errno();
-    libc::close(fd);
-    if done == 0 || e == libc::EINVAL {
+    names::rmdir(beside(o));
+    let e = names::synced(name);
+    if e == 0 {
         return refusal::none();
     }
-    refusal::by_system(Opt::Drawer, refusal::NOT_WRITTEN)
+    refusal::about(Opt::Drawer, refusal::NOT_WRITTEN, e)
 }
 
 fn let_go(o: Options, fd: i32) {
     libc::close(fd);
-    names::unlink(beside(o));
+    names::unlink(state(o));
+    names::rmdir(beside(o));
 }

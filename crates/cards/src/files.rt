@@ -14,6 +14,7 @@ pub(crate) struct Status {
     pub mode: u32,
     pub owner: u32,
     pub group: u32,
+    pub links: u64,
 }
 
 // What the system answers, and what it fills in.
@@ -22,13 +23,26 @@ struct Answer {
     of: stat,
 }
 
-// What a name leads to; a symbolic link itself, if it is not to be followed. A name has fewer than 4096 bytes, since
-// none that is longer leads to anything.
+// What a name leads to; a symbolic link itself, if it is not to be followed.
 pub(crate) fn named(name: Text, follow: bool) -> Status {
+    let path = path_of(name);
+    status_of(told(&path, follow, blank()))
+}
+
+// Makes a folder that nobody else can use. Answers 0, or -1, as where the name is taken.
+pub(crate) fn make_private(name: Text) -> i32 {
+    let path = path_of(name);
+    libc::mkdir(&path, 448) // 0700
+}
+
+// A name as C takes it, ended by a 0. It has fewer than 4096 bytes, since none that is longer leads to anything.
+fn path_of(name: Text) -> [u8; 4096]
+    ensures { λ r. ⌜ Ended r ⌝ }
+{
     let mut path = io::buffer();
     put(&mut path, 0, first(&name.bytes, name.len));
     path[4095] = 0;
-    status_of(told(&path, follow, blank()))
+    path
 }
 
 // Asks the system. It is the one function that lends a struct, so its proof is walked by hand.
@@ -43,6 +57,19 @@ fn told(path: &[u8; 4096], follow: bool, mut s: stat) -> Answer
     Answer { done: done, of: s }
 }
 
+// Of nothing.
+pub(crate) fn unknown() -> Status {
+    Status {
+        good: false,
+        device: 0,
+        inode: 0,
+        mode: 0,
+        owner: 0,
+        group: 0,
+        links: 0,
+    }
+}
+
 fn status_of(a: Answer) -> Status {
     let s = a.of;
     Status {
@@ -52,6 +79,7 @@ fn status_of(a: Answer) -> Status {
         mode: s.st_mode,
         owner: s.st_uid,
         group: s.st_gid,
+        links: s.st_nlink,
     }
 }
 

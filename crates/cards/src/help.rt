@@ -1,4 +1,4 @@
-// help: what each command does, with examples that work as they stand, behind those of `cards help`.
+// help: what each command does, with examples that work as they stand, after those of `cards help`.
 use crate::commands;
 use crate::commands::Command;
 use crate::options;
@@ -17,10 +17,10 @@ key books.
 
 ";
 
-const STATUS: [u8; 844] = *b"
+const STATUS: [u8; 836] = *b"
 The exit status is 0 exactly if all was done. Otherwise it is the number of the refusal, and
-the last line on standard error says what was refused:
-    cards open --key song.key --in song.card --out song.txt || echo 'the card was refused'
+the last line on standard error says what was refused. So scripts can say:
+  cards check --key song.key --in song.card && echo 'it opens'
 A refusal writes no output file. An option with -hex behind its name takes a file in hex.
 man cards has the numbers, and how the files are laid out.
 
@@ -34,8 +34,8 @@ The first line makes keys that nobody else can read, and replaces none. The exam
 commands go on from there.
 ";
 
-const TAIL: [u8; 39] = *b"
-Examples, behind those of cards help:
+const TAIL: [u8; 38] = *b"
+Examples, after those of cards help:
 ";
 
 const SEAL: [u8; 175] =
@@ -48,8 +48,8 @@ const SEAL_EXAMPLES: [u8; 230] = *b"    (set -C; printf 'One duck came home' > h
     cards seal --key song.key --drawer songs.drawer --in home.txt --out-hex -
 ";
 
-const OPEN: [u8; 166] =
-    *b"cards open: writes the text of a card. Where its tag is wrong, as after a bit has flipped or
+const OPEN: [u8; 163] =
+    *b"cards open: writes the text of a card. If its tag is wrong, as after a bit has flipped or
 under another key, no byte of text is written, and it is refused with 7.
 ";
 
@@ -108,11 +108,11 @@ const START_EXAMPLES: [u8; 89] = *b"    cards start --drawer other.drawer
     cards start --drawer later.drawer --count 1000
 ";
 
-const DRAW: [u8; 290] =
+const DRAW: [u8; 299] =
     *b"cards draw: takes the next nonce from a drawer file, and prints it as a line of hex if no
 --out is given. The drawer's next state is on the disk before the nonce is written. While it
-is written there is FILE.next beside it; if that stays behind after a crash, remove it once
-no cards runs.
+is written there is a folder FILE.next beside it; if that stays behind after a crash, remove
+it once no cards runs.
 ";
 
 const DRAW_EXAMPLES: [u8; 86] = *b"    cards draw --drawer songs.drawer
@@ -127,9 +127,9 @@ const SHOW_EXAMPLES: [u8; 122] = *b"    cards show --drawer songs.drawer
     echo 'Five ducks' | cards seal --key song.key --drawer songs.drawer | cards show
 ";
 
-const BOOK: [u8; 147] =
+const BOOK: [u8; 149] =
     *b"cards book: makes a key book of entries: for each a class number and its key, 32 digits of
-hex. Class numbers rise. Nobody else can read the book.
+hex. Class numbers rise. Nobody else can read a new book.
 ";
 
 const BOOK_EXAMPLES: [u8; 176] =

@@ -3,13 +3,11 @@ use crate::inputs;
 use crate::options::Opt;
 use crate::options::Options;
 use crate::outputs;
-use crate::outputs::Kind;
 use crate::put;
 use crate::refusal;
 use crate::refusal::Refusal;
 use crate::rooms;
 use crate::text;
-use libc::STDOUT_FILENO;
 use words::first;
 
 // How far the entries have been read: where, how many there are, the least class that may come next, whether that was
@@ -46,13 +44,11 @@ fn bind(before: Refusal, o: Options, entries: &[u8], room: &mut [u8]) -> Refusal
     if b.why != refusal::NO_REASON {
         return refusal::of_entry(next_entry(b.count), b.why);
     }
+    if b.count == 0 {
+        return refusal::of_entry(0, refusal::NO_ENTRY);
+    }
     put(room, 0, &two_bytes(b.count));
-    outputs::finish(
-        refusal::none(),
-        o,
-        Kind::Keys,
-        first(room, place_of(b.count)),
-    )
+    outputs::finish(refusal::none(), o, true, first(room, place_of(b.count)))
 }
 
 // Binds entry by entry; each has two bytes at least.
@@ -193,9 +189,9 @@ fn list(book: &[u8]) -> Refusal {
     let count = words::two(book, 0) as usize;
     let mut i = 0;
     while i < count {
-        let line = text::number(b"", words::two(book, place_of(i)) as u64, b"\n");
-        if !io::write_all(STDOUT_FILENO, first(&line.bytes, line.len)) {
-            return outputs::printed(false);
+        let r = outputs::said(text::number(b"", words::two(book, place_of(i)) as u64, b"\n"));
+        if r.number != 0 {
+            return r;
         }
         i += 1;
     }

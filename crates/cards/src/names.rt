@@ -2,6 +2,7 @@
 use crate::files;
 use crate::files::Status;
 use crate::first_mut;
+use crate::refusal;
 use crate::text;
 use crate::text::Text;
 use words::first;
@@ -26,22 +27,60 @@ pub(crate) fn rename(from: Text, to: Text) -> i32 {
     os::rename(first(&from.bytes, from.len), first(&to.bytes, to.len))
 }
 
-// A new file of a name of its own, open for writing, that nobody else can read.
+pub(crate) fn rmdir(name: Text) {
+    os::rmdir(first(&name.bytes, name.len));
+}
+
+// Waits until what was made or renamed in the folder of this name is on the disk. Answers 0, or the error number; a
+// file system that has no such call says EINVAL.
+pub(crate) fn synced(name: Text) -> usize {
+    let fd = open_read(folder(name));
+    if fd < 0 {
+        return refusal::error();
+    }
+    let done = libc::fsync(fd) == 0 || os::errno() == libc::EINVAL;
+    let e = refusal::error();
+    libc::close(fd);
+    if done { 0 } else { e }
+}
+
+// A new file of a name of its own, open for writing.
 pub(crate) struct Scratch {
     pub fd: i32,
     pub name: Text,
 }
 
-// In the folder of this name, so that it can take its place.
-pub(crate) fn new_scratch(beside: Text) -> Scratch {
-    let t = text::and(folder(beside), b"/.cards.XXXXXX");
-    let mut bytes = t.bytes;
-    let fd = os::create_temp(first_mut(&mut bytes, t.len));
+pub(crate) fn no_scratch() -> Scratch {
+    Scratch {
+        fd: -1,
+        name: text::of(b""),
+    }
+}
+
+// In the folder of this name, so that it can take its place. A private one nobody else can read, the other has the
+// rights that the umask leaves.
+pub(crate) fn new_scratch(beside: Text, private: bool) -> Scratch {
+    let s = private_scratch(text::and(folder(beside), b"/.cards.XXXXXX"));
+    if private || s.fd < 0 {
+        return s;
+    }
+    libc::close(s.fd);
+    unlink(s.name);
+    let name = s.name;
+    Scratch {
+        fd: create(name),
+        name: name,
+    }
+}
+
+fn private_scratch(pattern: Text) -> Scratch {
+    let mut bytes = pattern.bytes;
+    let fd = os::create_temp(first_mut(&mut bytes, pattern.len));
     Scratch {
         fd: fd,
         name: Text {
             bytes: bytes,
-            len: t.len,
+            len: pattern.len,
         },
     }
 }

@@ -152,7 +152,7 @@ const OPTIONS: [OptionRow; 16] = [
 ];
 
 // What each is, by its place in the table.
-const SENTENCES: [u8; 789] =
+const SENTENCES: [u8; 765] =
     *b"0 the key: 16 bytes for a card, 128 for a wide block, 1 to 64 for a digest
 1 this term's key book
 2 last term's, which may be left out
@@ -162,13 +162,13 @@ const SENTENCES: [u8; 789] =
 6 what is read; standard input if it is left out or -
 7 where it is written; standard output if it is left out or -
 8 the words themselves as associated data
-9 the class whose key in the book it is
-10 the drawer that nonces and ivs are drawn from (cards help start)
+9 the class whose key in the book is used
+10 the drawer of nonces (cards help start)
 11 the reader's number, below 2^32; a random one if it is left out
 12 the first count to be drawn; 0 if it is left out
 13 1 to 64 bytes; 64 if it is left out
 14 replaces the file that --out names
-15 says so if all was done
+15 says that all was done
 ";
 
 // For each option the word of the command line that has what is given, 0 if it is not given, where in that word it
@@ -242,8 +242,9 @@ pub(crate) fn printed(o: Options) -> Options {
     let at = o.at;
     let from = o.from;
     let mut hex = o.hex;
-    if at[7] == 0 {
-        hex[7] = true;
+    let out = place(Opt::Out);
+    if at[out] == 0 {
+        hex[out] = true;
     }
     Options {
         at: at,
@@ -273,7 +274,7 @@ pub(crate) fn word_of(o: Options, option: Opt) -> Text {
 
 // Whether a standard stream can stand for the option: those up to --out.
 pub(crate) fn is_stream(option: Opt) -> bool {
-    place(option) < 8
+    place(option) <= place(Opt::Out)
 }
 
 // Whether the option's word is `-`, which stands for a standard stream.

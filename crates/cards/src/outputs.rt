@@ -1,7 +1,9 @@
 // Outputs: standard output, or a file that is written beside its place and then takes it.
 use crate::drawers;
+use crate::files;
 use crate::files::Status;
 use crate::names;
+use crate::names::Scratch;
 use crate::options;
 use crate::options::Opt;
 use crate::options::Options;
@@ -11,118 +13,93 @@ use crate::text::Text;
 use libc::STDOUT_FILENO;
 ghost use Prim.Native.Nat.{_≤_, _<_};
 
-// What an output is: a text for people too, what is sealed or noise, or keys.
-pub(crate) enum Kind {
-    Text,
-    Sealed,
-    Keys,
-}
-
-// What was refused, or how the file that is written is to be: whether one was there, whether its rights are set, and
-// whose they are.
+// What was refused, or what the output is written to: whether a file is replaced, whose rights are kept, and the file
+// that takes its place.
 pub(crate) struct Target {
     pub refusal: Refusal,
     pub there: bool,
-    pub sets: bool,
     pub rights: Status,
+    pub scratch: Scratch,
 }
 
-// Takes the output's name, so that no file is replaced unless --force asks for it, and writes the bytes. Where
-// something was refused before, that is handed on and nothing is done, here and in claim and write.
-pub(crate) fn finish(before: Refusal, o: Options, kind: Kind, bytes: &[u8]) -> Refusal {
-    write(claim(before, o, kind), o, bytes)
+// Sees that the output can be written, and writes the bytes; a private one nobody else can read. Where something was
+// refused before, that is handed on and nothing is done, here and in claim and write.
+pub(crate) fn finish(before: Refusal, o: Options, private: bool, bytes: &[u8]) -> Refusal {
+    write(claim(before, o, private), o, bytes)
 }
 
 fn is_standard(o: Options) -> bool {
     !options::given(o, Opt::Out) || options::is_dash(o, Opt::Out)
 }
 
-// Takes the name of the output by an empty file, or sees that --force would replace a file and nothing else.
-pub(crate) fn claim(before: Refusal, o: Options, kind: Kind) -> Target {
-    if before.number != 0 {
-        return claimed(before, false, false);
+// Makes the file that is to take the output's place, unless that is there and --force does not ask for it.
+pub(crate) fn claim(before: Refusal, o: Options, private: bool) -> Target {
+    if before.number != 0 || is_standard(o) {
+        return no_file(before);
     }
-    if is_standard(o) {
-        return claimed(for_terminal(o, kind), false, false);
-    }
-    claim_name(o, Opt::Out, kind)
+    claim_name(o, Opt::Out, private)
 }
 
-// Without rights that are to be set.
-fn claimed(r: Refusal, there: bool, sets: bool) -> Target {
+fn no_file(r: Refusal) -> Target {
     Target {
         refusal: r,
-        there: there,
-        sets: sets,
-        rights: names::status(crate::text::of(b""), true),
+        there: false,
+        rights: files::unknown(),
+        scratch: names::no_scratch(),
     }
 }
 
-// A terminal would show what is sealed as noise, and keys to whoever looks on.
-fn for_terminal(o: Options, kind: Kind) -> Refusal {
-    if options::given(o, Opt::Out) || is_text(kind) || libc::isatty(STDOUT_FILENO) != 1 {
-        return refusal::none();
-    }
-    refusal::about(Opt::Out, refusal::NOT_WRITTEN, refusal::TERMINAL)
-}
-
-fn is_text(kind: Kind) -> bool {
-    match kind {
-        Kind::Text => true,
-        _ => false,
-    }
-}
-
-fn is_keys(kind: Kind) -> bool {
-    match kind {
-        Kind::Keys => true,
-        _ => false,
-    }
-}
-
-pub(crate) fn claim_name(o: Options, option: Opt, kind: Kind) -> Target {
+pub(crate) fn claim_name(o: Options, option: Opt, private: bool) -> Target {
     let name = options::word_of(o, option);
-    let fd = names::create(name);
-    if fd >= 0 {
-        libc::close(fd);
-        return with_rights(name, false, !is_keys(kind));
+    let s = names::status(name, false);
+    if s.good {
+        return over(o, option, name, s);
     }
-    if os::errno() == libc::EEXIST {
-        return over(o, option, name);
+    if name.len == 0 || os::errno() != libc::ENOENT {
+        return no_file(refusal::by_system(option, refusal::NOT_WRITTEN));
     }
-    claimed(
-        refusal::by_system(option, refusal::NOT_WRITTEN),
-        false,
-        false,
-    )
+    with_scratch(option, name, private, false, s)
 }
 
-// The rights of the file of this name: those that the umask left an empty one, or those of the one to be replaced.
-pub(crate) fn with_rights(name: Text, there: bool, sets: bool) -> Target {
+fn with_scratch(option: Opt, name: Text, private: bool, there: bool, rights: Status) -> Target {
+    let scratch = names::new_scratch(name, private);
+    Target {
+        refusal: not_made(option, scratch.fd),
+        there: there,
+        rights: rights,
+        scratch: scratch,
+    }
+}
+
+// A file that is replaced by one that is there already.
+pub(crate) fn replacing(name: Text) -> Target {
     Target {
         refusal: refusal::none(),
-        there: there,
-        sets: sets,
+        there: true,
         rights: names::status(name, false),
+        scratch: names::no_scratch(),
     }
+}
+
+fn not_made(option: Opt, fd: i32) -> Refusal {
+    if fd < 0 {
+        return refusal::by_system(option, refusal::NOT_WRITTEN);
+    }
+    refusal::none()
 }
 
 // Over what is there.
-fn over(o: Options, option: Opt, name: Text) -> Target {
-    let why = kept_for(name);
+fn over(o: Options, option: Opt, name: Text, s: Status) -> Target {
+    let why = kept_for(name, s);
     let replaceable = why == refusal::NO_REASON && options::is_stream(option);
     if !options::given(o, Opt::Force) {
         let force_helps = replaceable && !is_read(o, name);
-        return claimed(exists(option, force_helps), false, false);
+        return no_file(exists(option, force_helps));
     }
     if replaceable {
-        return with_rights(name, true, true);
+        return with_scratch(option, name, true, true, s);
     }
-    claimed(
-        refusal::about(option, refusal::NOT_WRITTEN, why),
-        false,
-        false,
-    )
+    no_file(refusal::about(option, refusal::NOT_WRITTEN, why))
 }
 
 fn exists(option: Opt, force_helps: bool) -> Refusal {
@@ -134,11 +111,11 @@ fn exists(option: Opt, force_helps: bool) -> Refusal {
 
 // Whether the name leads to a file that is read as key, book, nonce, iv or data: the rows before --in.
 pub(crate) fn is_read(o: Options, name: Text) -> bool {
+    let end = options::place(Opt::In);
     let mut row = 0;
-    while row < 6 {
+    while row < end {
         let option = options::at(row);
-        let named = options::given(o, option) && !options::is_dash(o, option);
-        if named && names::same_file(name, options::word_of(o, option)) {
+        if options::given(o, option) && names::same_file(name, source(o, option)) {
             return true;
         }
         row += 1;
@@ -146,9 +123,17 @@ pub(crate) fn is_read(o: Options, name: Text) -> bool {
     false
 }
 
+// The name of what is read: that of standard input leads to what stands for it.
+fn source(o: Options, option: Opt) -> Text {
+    if options::is_dash(o, option) {
+        return crate::text::of(b"/dev/stdin");
+    }
+    options::word_of(o, option)
+}
+
 // Why a file is not replaced: it is none, it cannot be written, or it is a drawer, whose numbers could be drawn again.
-fn kept_for(name: Text) -> usize {
-    let kind = kind_of(names::status(name, false));
+fn kept_for(name: Text, s: Status) -> usize {
+    let kind = kind_of(s);
     if kind != refusal::NO_REASON {
         return kind;
     }
@@ -166,29 +151,31 @@ fn kept_for(name: Text) -> usize {
 
 // What a file is that is not a regular one.
 pub(crate) fn kind_of(s: Status) -> usize {
-    match s.mode / 4096 % 16 {
-        8 => refusal::NO_REASON,
-        4 => refusal::A_DIRECTORY,
-        10 => refusal::LINK,
+    match s.mode & libc::S_IFMT {
+        libc::S_IFREG => refusal::NO_REASON,
+        libc::S_IFDIR => refusal::A_DIRECTORY,
+        libc::S_IFLNK => refusal::LINK,
         _ => refusal::SPECIAL,
     }
 }
 
-// Gives a name that was taken free again.
-pub(crate) fn release(o: Options, option: Opt, c: Target) {
-    if !c.there && options::given(o, option) && !options::is_dash(o, option) {
-        names::unlink(options::word_of(o, option));
+// Removes what was to take the output's place.
+pub(crate) fn release(target: Target) {
+    let s = target.scratch;
+    if s.fd >= 0 {
+        libc::close(s.fd);
+        names::unlink(s.name);
     }
 }
 
-// Writes the output, whose name is taken.
-pub(crate) fn write(c: Target, o: Options, bytes: &[u8]) -> Refusal {
-    let bad = c.refusal;
+// Writes the output.
+pub(crate) fn write(target: Target, o: Options, bytes: &[u8]) -> Refusal {
+    let bad = target.refusal;
     if bad.number != 0 {
         return bad;
     }
     if !is_standard(o) {
-        return write_file(o, Opt::Out, c, bytes);
+        return write_file(o, Opt::Out, target, bytes);
     }
     printed(sent(o, Opt::Out, STDOUT_FILENO, bytes))
 }
@@ -201,47 +188,67 @@ pub(crate) fn printed(all: bool) -> Refusal {
     refusal::by_system(Opt::Out, refusal::NOT_WRITTEN)
 }
 
-// Writes the file that the option names, beside it first.
-pub(crate) fn write_file(o: Options, option: Opt, c: Target, bytes: &[u8]) -> Refusal {
-    let r = written(o, option, c, bytes);
-    if r.number != 0 {
-        release(o, option, c);
-    }
-    r
+// Writes a text to standard output.
+pub(crate) fn said(t: Text) -> Refusal {
+    printed(io::write_all(STDOUT_FILENO, words::first(&t.bytes, t.len)))
 }
 
-fn written(o: Options, option: Opt, c: Target, bytes: &[u8]) -> Refusal {
+// Writes the file that the option names. That its folder is on the disk too is not waited for where it cannot be.
+pub(crate) fn write_file(o: Options, option: Opt, target: Target, bytes: &[u8]) -> Refusal {
     let name = options::word_of(o, option);
-    let s = names::new_scratch(name);
-    if s.fd < 0 {
-        return refusal::by_system(option, refusal::NOT_WRITTEN);
-    }
-    let r = filled(o, option, s.fd, c, bytes);
+    let s = target.scratch;
+    let r = filled(o, option, s.fd, target, bytes);
     libc::close(s.fd);
-    let t = put_in_place(r, option, s.name, name);
+    let t = put_in_place(r, option, target.there, s.name, name);
     if t.number != 0 {
         names::unlink(s.name);
+        return t;
     }
+    names::synced(name);
     t
 }
 
-// Gives a file the name that the option names, unless something was refused before.
-pub(crate) fn put_in_place(before: Refusal, option: Opt, from: Text, to: Text) -> Refusal {
-    if before.number != 0 {
+// Gives a file the name that the option names, unless something was refused before. A name that is free is first taken
+// by an empty file: so nothing is replaced that somebody else makes at that moment.
+pub(crate) fn put_in_place(
+    before: Refusal,
+    option: Opt,
+    there: bool,
+    from: Text,
+    to: Text,
+) -> Refusal {
+    let r = refusal::or(before, taken(before, option, there, to));
+    if r.number != 0 || names::rename(from, to) == 0 {
+        return r;
+    }
+    let s = refusal::by_system(option, refusal::NOT_WRITTEN);
+    if !there {
+        names::unlink(to);
+    }
+    s
+}
+
+fn taken(before: Refusal, option: Opt, there: bool, name: Text) -> Refusal {
+    if there || before.number != 0 {
         return before;
     }
-    if names::rename(from, to) == 0 {
-        return refusal::none();
+    let fd = names::create(name);
+    if fd >= 0 {
+        libc::close(fd);
+        return before;
+    }
+    if os::errno() == libc::EEXIST {
+        return refusal::about(option, refusal::EXISTS, refusal::NO_REASON);
     }
     refusal::by_system(option, refusal::NOT_WRITTEN)
 }
 
-// Writes all to a file that nobody else can read, sets its rights, and waits until it is on the disk.
-pub(crate) fn filled(o: Options, option: Opt, fd: i32, c: Target, bytes: &[u8]) -> Refusal {
+// Writes all to a file, gives it the rights of the one that it replaces, and waits until it is on the disk.
+pub(crate) fn filled(o: Options, option: Opt, fd: i32, target: Target, bytes: &[u8]) -> Refusal {
     if !sent(o, option, fd, bytes) {
         return refusal::by_system(option, refusal::NOT_WRITTEN);
     }
-    if c.sets && !rights_set(fd, c) {
+    if target.there && !rights_set(fd, target.rights) {
         return refusal::about(option, refusal::NOT_WRITTEN, refusal::RIGHTS);
     }
     if libc::fsync(fd) == 0 {
@@ -251,8 +258,7 @@ pub(crate) fn filled(o: Options, option: Opt, fd: i32, c: Target, bytes: &[u8]) 
 }
 
 // The group is kept, or nothing is: its rights would go to another. Of the owner only root can keep another's.
-fn rights_set(fd: i32, c: Target) -> bool {
-    let s = c.rights;
+fn rights_set(fd: i32, s: Status) -> bool {
     if !s.good {
         return false;
     }

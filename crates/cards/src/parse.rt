@@ -32,7 +32,7 @@ struct Named {
 pub(crate) fn command_line() -> Parsed {
     let n = os::arg_count();
     if n < 2 {
-        return begun(Command::Help, refusal::of_word(0, refusal::NO_COMMAND));
+        return begun(Command::Help, refusal::of_word(0, refusal::COMMAND_NEEDED));
     }
     let named = commands::of_word(options::word(1));
     if !named.good {
@@ -79,7 +79,7 @@ fn next(p: Parsed, i: usize) -> Parsed {
     let command = p.command;
     match command {
         Command::Help => helped(p, i, w),
-        Command::Version => against(p, i, refusal::NO_SUCH_OPTION),
+        Command::Version => too_many(p, i),
         _ => option_or_value(p, i, w),
     }
 }
@@ -87,7 +87,7 @@ fn next(p: Parsed, i: usize) -> Parsed {
 // The command whose help is asked for: one word.
 fn helped(p: Parsed, i: usize, w: Text) -> Parsed {
     if i != 2 {
-        return against(p, i, refusal::NO_SUCH_OPTION);
+        return too_many(p, i);
     }
     let named = commands::of_word(w);
     if !named.good {
@@ -110,8 +110,8 @@ fn option_or_value(p: Parsed, i: usize, w: Text) -> Parsed {
         }
         return with_value(p, p.waits, i, 0);
     }
-    if p.ended {
-        return against(p, i, refusal::NO_SUCH_OPTION);
+    if p.ended || w.bytes[0] != b'-' {
+        return too_many(p, i);
     }
     if text::is(w, b"--") {
         return ending(p);
@@ -146,6 +146,11 @@ fn with_option(p: Parsed, i: usize, named: Named) -> Parsed {
         return waiting(noted, row);
     }
     with_value(noted, row, i, named.from)
+}
+
+// A word that nothing waits for.
+fn too_many(p: Parsed, i: usize) -> Parsed {
+    against(p, i, refusal::WORD_TOO_MANY)
 }
 
 fn against(p: Parsed, i: usize, why: usize) -> Parsed {

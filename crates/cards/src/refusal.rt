@@ -50,75 +50,85 @@ pub(crate) const A_DIRECTORY: usize = 21;
 
 pub(crate) const NO_COMMAND: usize = 1001;
 
-pub(crate) const NO_SUCH_OPTION: usize = 1002;
+pub(crate) const COMMAND_NEEDED: usize = 1002;
 
-pub(crate) const TWICE: usize = 1003;
+pub(crate) const NO_SUCH_OPTION: usize = 1003;
 
-pub(crate) const NO_VALUE: usize = 1004;
+pub(crate) const WORD_TOO_MANY: usize = 1004;
 
-pub(crate) const NEEDED: usize = 1005;
+pub(crate) const TWICE: usize = 1005;
 
-pub(crate) const NOT_TOGETHER: usize = 1006;
+pub(crate) const NO_VALUE: usize = 1006;
 
-pub(crate) const NO_NUMBER: usize = 1007;
+pub(crate) const NEEDED: usize = 1007;
 
-pub(crate) const STANDARD_INPUT_TAKEN: usize = 1008;
+pub(crate) const NOT_TOGETHER: usize = 1008;
 
-pub(crate) const TOO_LONG: usize = 1009;
+pub(crate) const NO_NUMBER: usize = 1009;
 
-pub(crate) const DRAWERS_OWN: usize = 1010;
+pub(crate) const STANDARD_INPUT_TAKEN: usize = 1010;
 
-pub(crate) const IS_INPUT: usize = 1011;
+pub(crate) const TOO_LONG: usize = 1011;
 
-pub(crate) const CLOSED: usize = 1012;
+pub(crate) const DRAWERS_OWN: usize = 1012;
 
-pub(crate) const LINK: usize = 1013;
+pub(crate) const IS_INPUT: usize = 1013;
 
-pub(crate) const SPECIAL: usize = 1014;
+pub(crate) const CLOSED: usize = 1014;
 
-pub(crate) const DRAWER_FILE: usize = 1015;
+pub(crate) const LINK: usize = 1015;
 
-pub(crate) const TERMINAL: usize = 1016;
+pub(crate) const TWO_NAMES: usize = 1016;
 
-pub(crate) const FORCE_HELPS: usize = 1017;
+pub(crate) const SPECIAL: usize = 1017;
 
-pub(crate) const RIGHTS: usize = 1018;
+pub(crate) const DRAWER_FILE: usize = 1018;
 
-pub(crate) const DRAWS: usize = 1019;
+pub(crate) const TERMINAL: usize = 1019;
 
-pub(crate) const RANDOM: usize = 1020;
+pub(crate) const FORCE_HELPS: usize = 1020;
 
-pub(crate) const TOO_MUCH_HEX: usize = 1021;
+pub(crate) const RIGHTS: usize = 1021;
 
-pub(crate) const WRONG_TAG: usize = 1022;
+pub(crate) const DRAWS: usize = 1022;
 
-pub(crate) const KEY_16: usize = 1023;
+pub(crate) const IN_THE_WAY: usize = 1023;
 
-pub(crate) const KEY_128: usize = 1024;
+pub(crate) const RANDOM: usize = 1024;
 
-pub(crate) const KEY_64: usize = 1025;
+pub(crate) const TOO_MUCH_HEX: usize = 1025;
 
-pub(crate) const NONCE_12: usize = 1026;
+pub(crate) const WRONG_TAG: usize = 1026;
 
-pub(crate) const IV_48: usize = 1027;
+pub(crate) const KEY_16: usize = 1027;
 
-pub(crate) const DATA_65536: usize = 1028;
+pub(crate) const KEY_128: usize = 1028;
 
-pub(crate) const CARD_65535: usize = 1029;
+pub(crate) const KEY_64: usize = 1029;
 
-pub(crate) const BLOCK: usize = 1030;
+pub(crate) const NONCE_12: usize = 1030;
 
-pub(crate) const WIDE_FILE: usize = 1031;
+pub(crate) const IV_48: usize = 1031;
 
-pub(crate) const TEXT_1048576: usize = 1032;
+pub(crate) const DATA_65536: usize = 1032;
 
-pub(crate) const BAD_CLASS: usize = 1033;
+pub(crate) const CARD_65535: usize = 1033;
 
-pub(crate) const BAD_KEY: usize = 1034;
+pub(crate) const BLOCK: usize = 1034;
 
-pub(crate) const NOT_RISING: usize = 1035;
+pub(crate) const WIDE_FILE: usize = 1035;
 
-pub(crate) const TOO_MANY: usize = 1036;
+pub(crate) const TEXT_1048576: usize = 1036;
+
+pub(crate) const NO_ENTRY: usize = 1037;
+
+pub(crate) const BAD_CLASS: usize = 1038;
+
+pub(crate) const BAD_KEY: usize = 1039;
+
+pub(crate) const NOT_RISING: usize = 1040;
+
+pub(crate) const TOO_MANY: usize = 1041;
 
 // The words of document 01, of document 02 for 12 and 15, and the tool's own.
 const WORDS: [u8; 495] = *b"1 key has a wrong length
@@ -143,10 +153,12 @@ const WORDS: [u8; 495] = *b"1 key has a wrong length
 ";
 
 // Numbers up to 1000 are the system's errors.
-const REASONS: [u8; 1530] = *b"1 permission denied
+const REASONS: [u8; 1835] = *b"1 permission denied
 2 no such file or directory
 5 input or output error
+6 no such device or address
 9 not open
+11 not ready
 13 permission denied
 17 it is there
 20 not a directory
@@ -156,44 +168,50 @@ const REASONS: [u8; 1530] = *b"1 permission denied
 27 file too large
 28 no space left
 30 read-only file system
+32 nobody reads it
 36 name too long
 40 too many links
 1001 no such command
-1002 no such option here
-1003 given twice
-1004 the word behind it is missing
-1005 needed
-1006 not together with what else is given
-1007 not a number, or too large
-1008 standard input is read for another input
-1009 a word is longer than 4096 bytes
-1010 the drawer, or the file beside it
-1011 a file that is read as key, book, nonce, iv or data
-1012 closed, or a directory
-1013 a symbolic link
-1014 not a regular file
-1015 a drawer file
-1016 a terminal: name a file, or - to write there all the same
-1017 --force replaces it
-1018 its rights cannot be kept
-1019 another cards draws: try again; if none runs, remove the file with .next behind its name
-1020 the system's random source
-1021 more than 16777216 characters
-1022 another key, another label or data, or the card was changed
-1023 must be 16 bytes
-1024 must be 128 bytes
-1025 must be 1 to 64 bytes
-1026 must be 12 bytes
-1027 must be 48 bytes
-1028 must be 65536 bytes or fewer
-1029 must be 65535 bytes or fewer
-1030 must be 33 to 1048608 bytes
-1031 must be 81 to 1048656 bytes
-1032 must be 1048576 bytes or fewer
-1033 its class is not a number below 65536
-1034 its key is not 32 digits of hex
-1035 its class does not rise
-1036 more than 65535
+1002 a command is needed
+1003 no such option here
+1004 a word too many: what has blanks in it wants quotes
+1005 given twice
+1006 the word behind it is missing
+1007 needed
+1008 not together with what else is given
+1009 not a number, or too large
+1010 standard input is read for another input
+1011 a word is longer than 4096 bytes
+1012 the drawer, or the file beside it
+1013 a file that is read as key, book, nonce, iv or data
+1014 closed, or a directory
+1015 a symbolic link
+1016 it has another name too, a hard link
+1017 not a regular file
+1018 a drawer file
+1019 a terminal: name a file, or - to write there all the same
+1020 --force replaces it
+1021 its group or its rights cannot be kept
+1022 another cards draws: try again; if none runs, remove the folder with .next behind its name
+1023 what has .next behind its name is in the way, and is not another cards that draws
+1024 the system's random source
+1025 more than 16777216 characters
+1026 another key, another label or data, or the card was changed
+1027 must be 16 bytes
+1028 must be 128 bytes
+1029 must be 1 to 64 bytes
+1030 must be 12 bytes
+1031 must be 48 bytes
+1032 must be 65536 bytes or fewer
+1033 must be 65535 bytes or fewer
+1034 must be 33 to 1048608 bytes
+1035 must be 81 to 1048656 bytes
+1036 must be 1048576 bytes or fewer
+1037 there is none
+1038 its class is not a number below 65536
+1039 its key is not 32 digits of hex
+1040 its class does not rise
+1041 more than 65535
 ";
 
 // Nothing.

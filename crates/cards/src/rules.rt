@@ -11,17 +11,16 @@ use crate::outputs;
 use crate::refusal;
 use crate::refusal::Refusal;
 use crate::refusal::or;
+use libc::STDOUT_FILENO;
 
 // What is refused first. No rule has an effect, so all are judged.
 pub(crate) fn judged(command: Command, o: Options) -> Refusal {
     let r = or(required(command, o), or(together(command, o), numbers(o)));
-    or(
-        r,
-        or(
-            standard_input(command, o),
-            or(not_in_drawer(o), not_over_input(o)),
-        ),
-    )
+    let s = or(
+        standard_input(command, o),
+        or(not_in_drawer(o), not_over_input(o)),
+    );
+    or(r, or(s, not_to_terminal(command, o)))
 }
 
 // What the table has as needed.
@@ -116,11 +115,12 @@ fn number(o: Options, option: Opt, most: u64) -> Refusal {
     against(option, refusal::NO_NUMBER)
 }
 
-// Standard input is read for one input only. The rows up to --in are those of inputs.
+// Standard input is read for one input only. The rows before --out are those of inputs.
 fn standard_input(command: Command, o: Options) -> Refusal {
     let mut taken = reads_standard(command, o);
+    let end = options::place(Opt::Out);
     let mut row = 0;
-    while row < 7 {
+    while row < end {
         if options::is_dash(o, options::at(row)) {
             if taken {
                 return against(options::at(row), refusal::STANDARD_INPUT_TAKEN);
@@ -171,4 +171,23 @@ fn not_over_input(o: Options) -> Refusal {
         return against(Opt::Out, refusal::IS_INPUT);
     }
     refusal::none()
+}
+
+// Nor to a terminal, unless - asks for it: that would show what is sealed as noise, and keys to whoever looks on.
+fn not_to_terminal(command: Command, o: Options) -> Refusal {
+    if given(o, Opt::Out) || !is_for_machines(command) || libc::isatty(STDOUT_FILENO) != 1 {
+        return refusal::none();
+    }
+    refusal::about(Opt::Out, refusal::NOT_WRITTEN, refusal::TERMINAL)
+}
+
+// Whether nobody could read what the command writes. A wide file that was changed gives noise.
+fn is_for_machines(command: Command) -> bool {
+    match command {
+        Command::Seal => true,
+        Command::Encipher => true,
+        Command::Decipher => true,
+        Command::Book => true,
+        _ => false,
+    }
 }

@@ -7,7 +7,6 @@ use crate::options;
 use crate::options::Opt;
 use crate::options::Options;
 use crate::outputs;
-use crate::outputs::Kind;
 use crate::put;
 use crate::refusal;
 use crate::refusal::Refusal;
@@ -71,12 +70,7 @@ fn seal_text(
 fn seal_given(o: Options, key: &[u8], nonce: &[u8], data: &[u8], text: &[u8]) -> Refusal {
     let mut room = rooms::card();
     let number = sealed_card::seal(key, nonce, data, text, &mut room);
-    outputs::finish(
-        refused(number),
-        o,
-        Kind::Sealed,
-        first(&room, with_30(text.len())),
-    )
+    outputs::finish(refused(number), o, false, first(&room, with_30(text.len())))
 }
 
 fn seal_drawn(o: Options, key: &[u8], data: &[u8], text: &[u8]) -> Refusal {
@@ -91,14 +85,7 @@ fn seal_drawn(o: Options, key: &[u8], data: &[u8], text: &[u8]) -> Refusal {
     let mut room = rooms::card();
     let number = sealed_card::seal(key, &nonce, data, text, &mut room);
     let against = refusal::or(refused(number), drawers::spent(drawn.number));
-    drawers::spend(
-        o,
-        h,
-        next,
-        Kind::Sealed,
-        against,
-        first(&room, with_30(text.len())),
-    )
+    drawers::spend(o, h, next, against, first(&room, with_30(text.len())))
 }
 
 // How long the card of a text of this length is.
@@ -143,7 +130,7 @@ fn open_card(
     outputs::finish(
         refused(number),
         o,
-        Kind::Text,
+        false,
         first(&room, without_30(sealed.len())),
     )
 }

@@ -41,7 +41,7 @@ fn show_drawer(name: Text) -> Refusal {
     let k = drawers::kept_in(fd);
     libc::close(fd);
     if k.good {
-        return said(of_drawer(k.drawer));
+        return outputs::said(of_drawer(k.drawer));
     }
     refusal::about(Opt::Drawer, refusal::DAMAGED, refusal::NO_REASON)
 }
@@ -62,10 +62,6 @@ fn drawn_from(reader: u64, count: u64) -> Text {
     )
 }
 
-fn said(t: Text) -> Refusal {
-    outputs::printed(io::write_all(STDOUT_FILENO, first(&t.bytes, t.len)))
-}
-
 // A card is as long as it says: 30 bytes and its text.
 fn show_card(before: Refusal, card: &[u8]) -> Refusal {
     if before.number != 0 {
@@ -78,7 +74,7 @@ fn show_card(before: Refusal, card: &[u8]) -> Refusal {
     if card.len() > 30 + n {
         return refusal::about(Opt::In, 15, refusal::NO_REASON);
     }
-    let r = said(front(card));
+    let r = outputs::said(front(card));
     let s = refusal::or(r, ciphertext_said(r, text::part(card, 14, 14 + n)));
     refusal::or(s, tag_said(s, text::part(card, 14 + n, card.len())))
 }
@@ -101,5 +97,5 @@ fn tag_said(before: Refusal, tag: &[u8]) -> Refusal {
     if before.number != 0 {
         return before;
     }
-    said(text::hex(b"tag ", tag))
+    outputs::said(text::hex(b"tag ", tag))
 }

@@ -6,7 +6,6 @@ use crate::options;
 use crate::options::Opt;
 use crate::options::Options;
 use crate::outputs;
-use crate::outputs::Kind;
 use crate::put;
 use crate::refusal;
 use crate::refusal::Refusal;
@@ -48,12 +47,7 @@ fn encipher_under(
         return encipher_drawn(o, key, file, n);
     }
     let number = enciphered(key, iv, file, n);
-    outputs::finish(
-        enciphering(number),
-        o,
-        Kind::Sealed,
-        first(file, with_iv(n)),
-    )
+    outputs::finish(enciphering(number), o, false, first(file, with_iv(n)))
 }
 
 fn encipher_drawn(o: Options, key: &[u8], file: &mut [u8], n: usize) -> Refusal {
@@ -67,7 +61,7 @@ fn encipher_drawn(o: Options, key: &[u8], file: &mut [u8], n: usize) -> Refusal 
     let next = drawn.next;
     let number = enciphered(key, &iv, file, n);
     let against = refusal::or(enciphering(number), drawers::spent(drawn.number));
-    drawers::spend(o, h, next, Kind::Sealed, against, first(file, with_iv(n)))
+    drawers::spend(o, h, next, against, first(file, with_iv(n)))
 }
 
 // Enciphers the n bytes that stand behind the place of the iv, and puts the iv there.
@@ -95,7 +89,7 @@ fn decipher_in(before: Refusal, o: Options, key: &[u8], file: &mut [u8]) -> Refu
     let n = put(&mut iv, 0, file);
     let block = behind_iv(file);
     let number = lioness::decipher(key, first(&iv, n), block);
-    outputs::finish(deciphering(number), o, Kind::Sealed, block)
+    outputs::finish(deciphering(number), o, false, block)
 }
 
 // What stands behind the 48 bytes of an iv, nothing where there are fewer.

@@ -4,12 +4,10 @@ use Rattle.cards.proofs.key_books.list.Statement.{statement}
 use Rattle.cards.proofs.key_books.list.Tie as tie
 use Rattle.books.proofs.number.Reads as number-reads
 use Rattle.cards.proofs.key_books.place_of.Reads as place-of-reads
-use Rattle.cards.proofs.outputs.printed.Reads as printed-reads
+use Rattle.cards.proofs.outputs.said.Reads as said-reads
 use Rattle.cards.proofs.refusal.about.Reads as about-reads
 use Rattle.cards.proofs.refusal.none.Reads as none-reads
 use Rattle.cards.proofs.text.number.Reads as text-number-reads
-use Rattle.io.proofs.write_all.Reads as write-all-reads
-use Rattle.words.proofs.first.Reads as first-reads
 use Rattle.words.proofs.two.Reads as two-reads
 
 abbrev Inv-loop : tie.InvT-loop
@@ -57,14 +55,8 @@ slice-aggregate-number-3 c = search needs
 number-requires-2 : tie.Need-number-requires-2 Inv-loop μ-loop
 number-requires-2 c κs = search needs
 
-first-requires : tie.Need-first-requires Inv-loop μ-loop
-first-requires c κs = search needs
-
-write-all-requires : tie.Need-write-all-requires Inv-loop μ-loop
-write-all-requires c κs = search needs
-
-printed-requires : tie.Need-printed-requires Inv-loop μ-loop
-printed-requires c κs = search needs
+said-requires : tie.Need-said-requires Inv-loop μ-loop
+said-requires c κs = search needs
 
 returns-2 : tie.Need-returns-2 Inv-loop μ-loop
 returns-2 c = search needs
@@ -103,9 +95,7 @@ list-spec =
     cast-number
     slice-aggregate-number-3
     number-requires-2
-    first-requires
-    write-all-requires
-    printed-requires
+    said-requires
     returns-2
     add-i
     loop-less

@@ -5,14 +5,17 @@ use Rattle.cards.proofs.outputs.is_read.Tie as tie
 use Rattle.cards.proofs.names.same_file.Reads as same-file-reads
 use Rattle.cards.proofs.options.at.Reads as at-reads
 use Rattle.cards.proofs.options.given.Reads as given-reads
-use Rattle.cards.proofs.options.is_dash.Reads as is-dash-reads
-use Rattle.cards.proofs.options.word_of.Reads as word-of-reads
+use Rattle.cards.proofs.options.place.Reads as place-reads
+use Rattle.cards.proofs.outputs.source.Reads as source-reads
 
 abbrev Inv-loop : tie.InvT-loop
-Inv-loop o name row₀ row = Unit {0}
+Inv-loop o name end row₀ row = Unit {0}
 
 abbrev μ-loop : tie.MeasureT-loop
-μ-loop o name row₀ row = 6 - row
+μ-loop o name end row₀ row = end - row
+
+place-requires : tie.Need-place-requires Inv-loop μ-loop
+place-requires c κs = search needs
 
 loop-holds : tie.Need-loop-holds Inv-loop μ-loop
 loop-holds c = search needs
@@ -23,11 +26,8 @@ at-requires c κs = search needs
 given-requires : tie.Need-given-requires Inv-loop μ-loop
 given-requires c κs = search needs
 
-is-dash-requires : tie.Need-is-dash-requires Inv-loop μ-loop
-is-dash-requires c κs = search needs
-
-word-of-requires : tie.Need-word-of-requires Inv-loop μ-loop
-word-of-requires c κs = search needs
+source-requires : tie.Need-source-requires Inv-loop μ-loop
+source-requires c κs = search needs
 
 same-file-requires : tie.Need-same-file-requires Inv-loop μ-loop
 same-file-requires c κs = search needs
@@ -53,11 +53,11 @@ is-read-spec =
     (tie.spec
     Inv-loop
     μ-loop
+    place-requires
     loop-holds
     at-requires
     given-requires
-    is-dash-requires
-    word-of-requires
+    source-requires
     same-file-requires
     returns
     add-row

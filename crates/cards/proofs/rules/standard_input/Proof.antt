@@ -4,18 +4,22 @@ use Rattle.cards.proofs.rules.standard_input.Statement.{statement}
 use Rattle.cards.proofs.rules.standard_input.Tie as tie
 use Rattle.cards.proofs.options.at.Reads as at-reads
 use Rattle.cards.proofs.options.is_dash.Reads as is-dash-reads
+use Rattle.cards.proofs.options.place.Reads as place-reads
 use Rattle.cards.proofs.refusal.none.Reads as none-reads
 use Rattle.cards.proofs.rules.against.Reads as against-reads
 use Rattle.cards.proofs.rules.reads_standard.Reads as reads-standard-reads
 
 abbrev Inv-loop : tie.InvT-loop
-Inv-loop o taken₀ row₀ taken row = Unit {0}
+Inv-loop o taken₀ end row₀ taken row = Unit {0}
 
 abbrev μ-loop : tie.MeasureT-loop
-μ-loop o taken₀ row₀ taken row = 7 - row
+μ-loop o taken₀ end row₀ taken row = end - row
 
 reads-standard-requires : tie.Need-reads-standard-requires Inv-loop μ-loop
 reads-standard-requires c κs = search needs
+
+place-requires : tie.Need-place-requires Inv-loop μ-loop
+place-requires c κs = search needs
 
 loop-holds : tie.Need-loop-holds Inv-loop μ-loop
 loop-holds c = search needs
@@ -57,6 +61,7 @@ standard-input-spec =
     Inv-loop
     μ-loop
     reads-standard-requires
+    place-requires
     loop-holds
     at-requires
     is-dash-requires
