@@ -114,6 +114,21 @@ long_names() {
     is 'the card' "$known_card" "$(hex_of "$name")"
     names_too_long
     drawers_alike
+    long_paths
+}
+
+# A path is never cut: with what is added to it, it leads somewhere or is refused, and nothing is made by another name.
+long_paths() {
+    local length folder
+    works start --drawer x --reader 42
+    for length in 4090 4091 4094 4095 4096; do
+        printf -v folder './%*s' $((length - 3)) ''
+        folder=${folder// //}
+        refused 104 '*' draw --drawer "${folder}x"
+        refused 104 '*' start --drawer "${folder}y" --reader 1
+    done
+    works draw --drawer "${folder:0:4000}x"
+    rm x
 }
 
 names_too_long() {

@@ -73,6 +73,11 @@ outputs_that_are_drawers() {
     ln d same-drawer
     refused 106 '--drawer d' draw --drawer d --out same-drawer --force
     rm same-drawer
+    # Nor does the output lie in the folder that is there while it is drawn.
+    for name in d.next/new ./d.next/../d.next//new "$PWD/d.next/state"; do
+        refused 104 "--out $name" seal --key k --drawer d --in song --out "$name"
+        refused 104 "--out $name" draw --drawer linked/d --out "$name" --force
+    done
     # A file of another folder is another file.
     works draw --drawer d --out folder/d.next
     works draw --drawer d --out folder/d
@@ -173,6 +178,10 @@ in_shared_folder() {
     chmod 300 closed
     refused_to_nobody 104 '--drawer closed/d' draw --drawer closed/d
     drawer_is closed/d 07000000 0000000000000000
+    umask 177 # which keeps folders from being entered
+    as_nobody works start --drawer narrow --reader 7
+    as_nobody works draw --drawer narrow
+    umask 022
     as_nobody works start --drawer theirs --reader 7
     works draw --drawer theirs
     is 'group and rights' '65534 644' "$(stat -c '%g %a' theirs)"

@@ -131,6 +131,10 @@ made_books() {
     refused 108 'standard input' book --out made --force </dev/null
     reason_is 'there is none'
     refused 108 'standard input' book --out made --force < <(blanks 9)
+    # An empty file, as a killed run can leave it, gives no rights to keys.
+    : >empty
+    works book --in entries --out empty --force
+    rights_are 600 empty
     wrong_entries "$aa"
     listed_books
 }

@@ -113,7 +113,7 @@ pub(crate) fn spent(number: u32) -> Refusal {
 
 // Keeps the next state, and then writes the output. Where something was refused, the drawer stays as it was.
 pub(crate) fn spend(o: Options, h: Held, next: Drawer, bad: Refusal, bytes: &[u8]) -> Refusal {
-    let target = outputs::claim(bad, o, false);
+    let target = outputs::claim(refusal::or(bad, in_lock(o)), o, false);
     let taken = target.refusal;
     if taken.number != 0 {
         let_go(o, h.fd);
@@ -125,6 +125,15 @@ pub(crate) fn spend(o: Options, h: Held, next: Drawer, bad: Refusal, bytes: &[u8
         return kept;
     }
     outputs::write(target, o, bytes)
+}
+
+// The folder beside the drawer is removed when it is kept, and nothing else may lie in it.
+fn in_lock(o: Options) -> Refusal {
+    let out = options::word_of(o, Opt::Out);
+    if out.len > 0 && names::same_file(names::folder(out), beside(o)) {
+        return refusal::about(Opt::Out, refusal::NOT_WRITTEN, refusal::DRAWERS_OWN);
+    }
+    refusal::none()
 }
 
 // Takes the drawer: nobody else can until it is kept or let go.
@@ -191,9 +200,10 @@ fn not_locked(o: Options) -> Refusal {
     refusal::by_system(Opt::Drawer, refusal::NOT_WRITTEN)
 }
 
-// Only a folder is another's that draws; anything else has the name by chance, and nobody is told to remove it.
+// Only a folder is another's that draws, and may have gone by now; anything else has the name by chance, and nobody is
+// told to remove it.
 fn in_use(s: Status) -> Refusal {
-    if outputs::kind_of(s) == refusal::A_DIRECTORY {
+    if !s.good || outputs::kind_of(s) == refusal::A_DIRECTORY {
         return refusal::about(Opt::Drawer, refusal::IN_USE, refusal::DRAWS);
     }
     refusal::about(Opt::Drawer, refusal::IN_USE, refusal::IN_THE_WAY)

@@ -15,6 +15,7 @@ pub(crate) struct Status {
     pub owner: u32,
     pub group: u32,
     pub links: u64,
+    pub empty: bool,
 }
 
 // What the system answers, and what it fills in.
@@ -25,17 +26,40 @@ struct Answer {
 
 // What a name leads to; a symbolic link itself, if it is not to be followed.
 pub(crate) fn named(name: Text, follow: bool) -> Status {
+    if is_too_long(name) {
+        return unknown();
+    }
     let path = path_of(name);
     status_of(told(&path, follow, blank()))
 }
 
 // Makes a folder that nobody else can use. Answers 0, or -1, as where the name is taken.
 pub(crate) fn make_private(name: Text) -> i32 {
+    if is_too_long(name) {
+        return -1;
+    }
     let path = path_of(name);
-    libc::mkdir(&path, 448) // 0700
+    let done = libc::mkdir(&path, 448); // 0700
+    if done == 0 {
+        keep_private(os::open_read(first(&name.bytes, name.len)));
+    }
+    done
 }
 
-// A name as C takes it, ended by a 0. It has fewer than 4096 bytes, since none that is longer leads to anything.
+// The umask may have left too little.
+fn keep_private(fd: i32) {
+    if fd >= 0 {
+        libc::fchmod(fd, 448);
+        libc::close(fd);
+    }
+}
+
+// No name of 4096 bytes or more leads to anything, and none is cut: os sets the error number.
+fn is_too_long(name: Text) -> bool {
+    name.len > 4095 && os::open_read(first(&name.bytes, name.len)) < 0
+}
+
+// A name as C takes it, ended by a 0.
 fn path_of(name: Text) -> [u8; 4096]
     ensures { λ r. ⌜ Ended r ⌝ }
 {
@@ -67,6 +91,7 @@ pub(crate) fn unknown() -> Status {
         owner: 0,
         group: 0,
         links: 0,
+        empty: false,
     }
 }
 
@@ -80,6 +105,7 @@ fn status_of(a: Answer) -> Status {
         owner: s.st_uid,
         group: s.st_gid,
         links: s.st_nlink,
+        empty: s.st_size == 0,
     }
 }
 

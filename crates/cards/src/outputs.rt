@@ -53,7 +53,7 @@ pub(crate) fn claim_name(o: Options, option: Opt, private: bool) -> Target {
     let name = options::word_of(o, option);
     let s = names::status(name, false);
     if s.good {
-        return over(o, option, name, s);
+        return over(o, option, name, private, s);
     }
     if name.len == 0 || os::errno() != libc::ENOENT {
         return no_file(refusal::by_system(option, refusal::NOT_WRITTEN));
@@ -88,8 +88,8 @@ fn not_made(option: Opt, fd: i32) -> Refusal {
     refusal::none()
 }
 
-// Over what is there.
-fn over(o: Options, option: Opt, name: Text, s: Status) -> Target {
+// Over what is there. An empty file may be what a killed run left, and gives no rights to keys.
+fn over(o: Options, option: Opt, name: Text, private: bool, s: Status) -> Target {
     let why = kept_for(name, s);
     let replaceable = why == refusal::NO_REASON && options::is_stream(option);
     if !options::given(o, Opt::Force) {
@@ -97,7 +97,12 @@ fn over(o: Options, option: Opt, name: Text, s: Status) -> Target {
         return no_file(exists(option, force_helps));
     }
     if replaceable {
-        return with_scratch(option, name, true, true, s);
+        let rights = if private && s.empty {
+            files::unknown()
+        } else {
+            s
+        };
+        return with_scratch(option, name, true, true, rights);
     }
     no_file(refusal::about(option, refusal::NOT_WRITTEN, why))
 }
@@ -248,7 +253,8 @@ pub(crate) fn filled(o: Options, option: Opt, fd: i32, target: Target, bytes: &[
     if !sent(o, option, fd, bytes) {
         return refusal::by_system(option, refusal::NOT_WRITTEN);
     }
-    if target.there && !rights_set(fd, target.rights) {
+    let rights = target.rights;
+    if rights.good && !rights_set(fd, rights) {
         return refusal::about(option, refusal::NOT_WRITTEN, refusal::RIGHTS);
     }
     if libc::fsync(fd) == 0 {
@@ -259,9 +265,6 @@ pub(crate) fn filled(o: Options, option: Opt, fd: i32, target: Target, bytes: &[
 
 // The group is kept, or nothing is: its rights would go to another. Of the owner only root can keep another's.
 fn rights_set(fd: i32, s: Status) -> bool {
-    if !s.good {
-        return false;
-    }
     let kept = libc::fchown(fd, s.owner, s.group) == 0
         || libc::fchown(fd, 4294967295, s.group) == 0;
     kept && libc::fchmod(fd, s.mode % 512) == 0

@@ -153,7 +153,7 @@ const WORDS: [u8; 495] = *b"1 key has a wrong length
 ";
 
 // Numbers up to 1000 are the system's errors.
-const REASONS: [u8; 1835] = *b"1 permission denied
+const REASONS: [u8; 1837] = *b"1 permission denied
 2 no such file or directory
 5 input or output error
 6 no such device or address
@@ -182,7 +182,7 @@ const REASONS: [u8; 1835] = *b"1 permission denied
 1009 not a number, or too large
 1010 standard input is read for another input
 1011 a word is longer than 4096 bytes
-1012 the drawer, or the file beside it
+1012 the drawer, or the folder beside it
 1013 a file that is read as key, book, nonce, iv or data
 1014 closed, or a directory
 1015 a symbolic link
