@@ -14,7 +14,7 @@ use crate::refusal::Refusal;
 use crate::text;
 use crate::text::Text;
 use drawer::Drawer;
-use drawer_file::Recalled;
+use drawer_file::Loaded;
 use words::first;
 
 // What was refused, or the drawer, and the file in the folder beside it, open for its next state.
@@ -71,7 +71,8 @@ fn started(target: Target, o: Options, d: Drawer) -> Refusal {
     if bad.number != 0 {
         return bad;
     }
-    let file = drawer_file::keep(d);
+    let stored = drawer_file::store(d);
+    let file = stored.bytes;
     let r = outputs::write_file(o, Opt::Drawer, target, &file);
     if r.number != 0 {
         return r;
@@ -216,7 +217,7 @@ fn opened(name: Text, fd: i32) -> Held {
     }
     let k = kept_in(from);
     libc::close(from);
-    if !k.good {
+    if k.number != 0 {
         return not_held(refusal::about(Opt::Drawer, refusal::DAMAGED, refusal::NO_REASON));
     }
     let d = k.drawer;
@@ -240,10 +241,10 @@ fn not_opened(name: Text, error: usize) -> Refusal {
 }
 
 // The drawer in an open file. What has no places, as a pipe, is none, and reading it could take forever.
-pub(crate) fn kept_in(fd: i32) -> Recalled {
+pub(crate) fn kept_in(fd: i32) -> Loaded {
     let mut file = [0u8; 45];
     let n = read_start(fd, &mut file);
-    drawer_file::recall(first(&file, n))
+    drawer_file::load(first(&file, n))
 }
 
 fn read_start(fd: i32, room: &mut [u8]) -> usize {
@@ -265,7 +266,8 @@ fn state(o: Options) -> Text {
 // Puts the next state in the drawer's place, with its rights, and waits until that is on the disk.
 fn keep(o: Options, fd: i32, next: Drawer) -> Refusal {
     let name = options::word_of(o, Opt::Drawer);
-    let file = drawer_file::keep(next);
+    let stored = drawer_file::store(next);
+    let file = stored.bytes;
     let r = outputs::filled(o, Opt::Drawer, fd, outputs::replacing(name), &file);
     let s = outputs::put_in_place(r, Opt::Drawer, true, state(o), name);
     if s.number != 0 {

@@ -148,7 +148,7 @@ fn kept_for(name: Text, s: Status) -> usize {
     }
     let k = drawers::kept_in(fd);
     libc::close(fd);
-    if k.good {
+    if k.number == 0 {
         return refusal::DRAWER_FILE;
     }
     refusal::NO_REASON

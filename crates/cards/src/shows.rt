@@ -40,7 +40,7 @@ fn show_drawer(name: Text) -> Refusal {
     }
     let k = drawers::kept_in(fd);
     libc::close(fd);
-    if k.good {
+    if k.number == 0 {
         return outputs::said(of_drawer(k.drawer));
     }
     refusal::about(Opt::Drawer, refusal::DAMAGED, refusal::NO_REASON)

@@ -1,20 +1,24 @@
-// A drawer as it is kept in a file: the 12 bytes that it draws next, and a digest of them by which damage is seen.
+// A drawer as it is stored in a file: the 12 bytes that it draws next, and a digest of them by which damage is seen.
 ghost use mathlib.Core.Path.{_≡_};
-ghost use Rattle.drawer_file.specs.DrawerFile.{keeping, recalling};
+ghost use Rattle.drawer_file.specs.DrawerFile.{storing, Loading};
 use drawer::Drawer;
 
-// Whether bytes are a drawer file, and its drawer.
-pub struct Recalled {
-    pub good: bool,
+// The bytes of a drawer file.
+#[repr(C)]
+pub struct Stored {
+    pub bytes: [u8; 44],
+}
+
+// What reading a drawer file answers: 0 or the refusal, and the drawer.
+#[repr(C)]
+pub struct Loaded {
+    pub number: u32,
     pub drawer: Drawer,
 }
 
-// The bytes of a drawer file.
-pub type File = [u8; 44];
-
 // The drawer file of d: the nonce that d draws next, and the 32-byte BLAKE2b digest of that under no key.
-pub fn keep(d: Drawer) -> File
-    ensures { λ r. ⌜ r ≡ keeping d ⌝ }
+pub fn store(d: Drawer) -> Stored
+    ensures { λ r. ⌜ r .bytes ≡ storing d ⌝ }
 {
     let mut file = [0u8; 44];
     let nonce = drawer::next_nonce(d);
@@ -22,26 +26,27 @@ pub fn keep(d: Drawer) -> File
     blake::digest(b"", &nonce, &mut check);
     words::add(&mut file, 0, &nonce, 0, 12);
     words::add(&mut file, 12, &check, 0, 32);
-    file
+    Stored { bytes: file }
 }
 
-// Whether s is, to the byte, what `keep` writes for its drawer, and that drawer; reader 0 with nothing left to draw
-// if it is not.
-pub fn recall(s: &[u8]) -> Recalled
-    ensures { λ r. ⌜ r ≡ recalling (now (s .entry)) ⌝ }
+// The drawer that bytes were stored of, if they are, to the byte, what `store` answers for it. If they are not, that is
+// refused, with reader 0 and nothing left to draw.
+pub fn load(bytes: &[u8]) -> Loaded
+    ensures { λ r. ⌜ Loading (r .number) (now (bytes .entry)) (r .drawer) ⌝ }
 {
-    let reader = words::load(s, 0, 4);
-    let count = words::load(s, 4, 8);
+    let reader = words::load(bytes, 0, 4);
+    let count = words::load(bytes, 4, 8);
     let d = drawer::start((reader.lo % 4294967296) as u32, count.lo);
-    let file = keep(d);
-    if words::same(s, &file) {
-        return Recalled {
-            good: true,
+    let stored = store(d);
+    let file = stored.bytes;
+    if words::same(bytes, &file) {
+        return Loaded {
+            number: 0,
             drawer: d,
         };
     }
-    Recalled {
-        good: false,
+    Loaded {
+        number: 106,
         drawer: drawer::start(0, 18446744073709551615),
     }
 }

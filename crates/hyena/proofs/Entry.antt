@@ -130,11 +130,11 @@ module _ (cipher : List ℕ → ℕ → ℕ) (i : Inputs) where
       pub opened-is : eqb (value l) (value t) ≡ true → Opening cipher 0 i tag₀ room room₁
       opened-is e = ap (answered 0) text-there ∙ sym (opening-by tag₀ room c true (sym compared ∙ e))
 
-      pub wrong-is : {room′ : List ℕ} → eqb (value l) (value t) ≡ false
-          → room′ ≡ over (replicate (length (i .text)) 0) room₁ → Opening cipher 7 i tag₀ room room′
-      wrong-is e ew =
+      pub wrong-is : {n : ℕ} {room′ : List ℕ} → n ≡ length (i .text) → eqb (value l) (value t) ≡ false
+          → room′ ≡ over (replicate n 0) room₁ → Opening cipher 7 i tag₀ room room′
+      wrong-is en e ew =
           let n = length (i .text) in
-          ap (answered 7) (ew ∙ ap (over (replicate n 0)) text-there
+          ap (answered 7) (ew ∙ ap₂ (λ (k : ℕ) (r : List ℕ). over (replicate k 0) r) en text-there
           ∙ over-over (replicate n 0) (outputOf cipher true i) room
           (length-replicate n 0 ∙ sym (length-outputs (cipher (i .key)) true (i .nonce) (i .«data») (i .text))))
           ∙ sym (opening-by tag₀ room c false (sym compared ∙ e))

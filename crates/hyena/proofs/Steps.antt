@@ -1,12 +1,12 @@
 -- What the loops over data and text make, from what each of their steps ensures.
 use mathlib.Core.Path.{_≡_, refl, sym, ap, ap₂, subst, _∙_}
-use mathlib.Core.Bool.{Bool, cond}
+use mathlib.Core.Bool.{Bool, true, false, cond}
 use mathlib.Core.List.{List, [], _∷_}
 use Prim.Native.Nat.{ℕ, _+_, _-_, _*_, _^_, _≤_, _<_}
 use native.Mathlib.Omega.{arith}
 use lib.Bits.{bitXor}
 use lib.Dec.{eqb}
-use lib.ListN.{length, set, replicate, length-replicate, replicate-append-replicate}
+use lib.ListN.{length, take, drop, set, replicate, length-replicate, replicate-append-replicate}
 use lib.Seq.{sets, take-all}
 use borrow.Author.Tests.{eq-eqb, ne-eqb}
 use Rattle.words.specs.declared.Block.{Block}
@@ -15,7 +15,7 @@ use Rattle.words.specs.Bytes.{Bytes, bytes, over}
 use Rattle.words.specs.Iterate.{iterate}
 use Rattle.words.proofs.Blocks.{value-halves, value-is, loaded-back}
 use Rattle.words.proofs.Bytes.{length-bytes}
-use Rattle.words.proofs.Lists.{sets-append}
+use Rattle.words.proofs.Lists.{sets-append, drop-sets}
 use Rattle.words.proofs.Over.{over-next}
 use Rattle.words.proofs.Iterate.{iterate-next}
 use Rattle.mode.specs.Hyena as mode
@@ -27,6 +27,7 @@ use Rattle.hyena_blocks.specs.declared.StateY.{StateY}
 use Rattle.hyena_blocks.specs.declared.StateX.{StateX}
 use Rattle.hyena_blocks.specs.Steps.{low, heldY, heldX, readY, readX}
 use Rattle.hyena_blocks.proofs.Steps.{low-xor, readY-held, held-readX}
+use Rattle.hyena.specs.Source.{source}
 
 -- ---- associated data
 
@@ -82,6 +83,32 @@ module _ (E : ℕ → ℕ) (opening : Bool) (s : List ℕ) (h : Bytes s) where
             ∙ ap (λ l. output l (E (value (t .x)))) p),
       )
 
+-- the bytes of the text that is worked on
+pub source-bytes : (inPlace : Bool) (text room : List ℕ) → Bytes text → Bytes room → Bytes (source inPlace text room)
+source-bytes true text room t r = r
+source-bytes false text room t r = t
+
+-- room keeps its length, and so does that text
+pub source-length : (inPlace : Bool) (text room₀ room : List ℕ) → length room ≡ length room₀
+    → length (source inPlace text room) ≡ length (source inPlace text room₀)
+source-length true text room₀ room e = e
+source-length false text room₀ room e = refl
+
+-- in place, what comes behind the output is as it was
+behind-output : (inPlace : Bool) (text room₀ out : List ℕ) (at n : ℕ) {room : List ℕ} → room ≡ sets room₀ 0 out
+    → length out ≤ at → part (source inPlace text room) at n ≡ part (source inPlace text room₀) at n
+behind-output true text room₀ out at n e h = ap (take n) (ap (drop at) e ∙ drop-sets room₀ 0 out at (omega arith))
+behind-output false text room₀ out at n e h = refl
+
+module _ (E : ℕ → ℕ) (opening inPlace : Bool) (text room₀ : List ℕ) (t : mode.StateX) (none : t .out ≡ []) where
+  -- so the block that is read next is the text's
+  pub still-there : (i n : ℕ) {u : StateX} {room : List ℕ} → i ≤ before (source inPlace text room₀)
+      → Held (textAt E opening (source inPlace text room₀) t i) room₀ u room
+      → part (source inPlace text room) (16 * i) n ≡ part (source inPlace text room₀) (16 * i) n
+  still-there i n h held =
+      behind-output inPlace text room₀ (textAt E opening (source inPlace text room₀) t i .out) (16 * i) n (held .1)
+      (omega (arith, length-at E opening t none (source inPlace text room₀) i h))
+
 module _ (E : ℕ → ℕ) (opening : Bool) (s room₀ : List ℕ) where
   -- a block d at the end of the output
   block-held : (t : mode.StateX) (k at : ℕ) (d : List ℕ) {u v : StateX} {room room′ : List ℕ}
@@ -101,25 +128,26 @@ module _ (E : ℕ → ℕ) (opening : Bool) (s room₀ : List ℕ) where
       )
 
   module _ (t : mode.StateX) (none : t .out ≡ []) where
-    pub text-next : (i : ℕ) {u v : StateX} {room room′ : List ℕ} → i < before s
+    pub text-next : (i : ℕ) {d : List ℕ} {u v : StateX} {room room′ : List ℕ} → i < before s → d ≡ blockAt s i
         → Held (textAt E opening s t i) room₀ u room
-        → v ≡ heldX (textBlock E opening 1 (readX u) (blockAt s i))
-        → room′ ≡ sets room (16 * i) (output (blockAt s i) (E (value (u .x))))
+        → v ≡ heldX (textBlock E opening 1 (readX u) d)
+        → room′ ≡ sets room (16 * i) (output d (E (value (u .x))))
         → Held (textAt E opening s t (i + 1)) room₀ v room′
-    text-next i {u} {v} {room} {room′} l held ev er =
+    text-next i {d} {u} {v} {room} {room′} l ed held ev er =
         subst (λ z. Held z room₀ v room′) (iterate-next (λ j w. textBlock E opening 1 w (blockAt s j)) i t refl refl)
         (block-held (textAt E opening s t i) 1 (16 * i) (blockAt s i) (length-at E opening t none s i (omega arith))
-        held ev er)
+        held (ev ∙ ap (λ l. heldX (textBlock E opening 1 (readX u) l)) ed)
+        (er ∙ ap (λ l. sets room (16 * i) (output l (E (value (u .x))))) ed))
 
-    pub text-end : (k : ℕ) {u v : StateX} {room room′ : List ℕ} → (length s ≡ 0 → ⊥)
+    pub text-end : (k : ℕ) {d : List ℕ} {u v : StateX} {room room′ : List ℕ} → (length s ≡ 0 → ⊥)
+        → d ≡ part s (16 * before s) (length s - 16 * before s)
         → Held (textAt E opening s t (before s)) room₀ u room
         → k ≡ cond (eqb (length s - 16 * before s) 16) 2 3
-        → v ≡ heldX (textBlock E opening k (readX u) (part s (16 * before s) (length s - 16 * before s)))
-        → room′ ≡ sets room (16 * before s)
-        (output (part s (16 * before s) (length s - 16 * before s)) (E (value (u .x))))
+        → v ≡ heldX (textBlock E opening k (readX u) d)
+        → room′ ≡ sets room (16 * before s) (output d (E (value (u .x))))
         → Held (afterText E opening t s) room₀ v room′
-    text-end k {u} {v} {room} {room′} some held ek ev er =
-        let ends : part s (16 * before s) (length s - 16 * before s) ≡ last s = last-part s in
+    text-end k {d} {u} {v} {room} {room′} some ed held ek ev er =
+        let ends : d ≡ last s = ed ∙ last-part s in
         let el : k ≡ cond (full (last s)) 2 3 = ek ∙ ap (λ (n : ℕ). cond (eqb n 16) 2 3) (sym (last-length s)) in
         subst (λ z. Held z room₀ v room′) (ap (λ (j : ℕ). textBlock E opening j (textAt E opening s t (before s))
         (last s)) el ∙ sym (text-some E opening t s some))

@@ -5,12 +5,13 @@ ghost use Prim.Native.Nat.{_+_, _≤_};
 ghost use lib.Dec.{eqb};
 ghost use lib.ListN.{length, replicate};
 ghost use lib.Seq.{sets};
-ghost use Rattle.words.specs.Block.{value, halves, part};
+ghost use Rattle.words.specs.Block.{value, halves, part, loaded};
 ghost use Rattle.words.specs.Bytes.{over};
 ghost use Rattle.answers.specs.Answers.{numberOf};
 ghost use Rattle.mode.specs.Hyena.{output, afterData, textBlock, afterText, outputs, tag};
 ghost use Rattle.hyena_blocks.specs.Steps.{enciphers, heldX, readY, readX};
 ghost use Rattle.hyena.specs.Entry.{rows, inputs, short, Sealing, Opening, gift};
+ghost use Rattle.hyena.specs.Source.{source};
 use answers::row;
 use hyena_blocks::StateX;
 use hyena_blocks::StateY;
@@ -29,20 +30,7 @@ pub fn seal(
     ensures { λ r. ⌜ Sealing gift r (inputs (now (key .entry)) (now (nonce .entry)) (now («data» .entry))
         (now (text .entry))) (now (room .entry)) (now (tag .entry)) (now (room .exit)) (now (tag .exit)) ⌝ }
 {
-    let refused = refusal(
-        key.len(),
-        nonce.len(),
-        data.len(),
-        text.len(),
-        tag.len(),
-        room.len(),
-    );
-    if refused != 0 {
-        return refused;
-    }
-    let t = run(false, key, nonce, data, text, room);
-    words::store(tag, 0, 16, t);
-    0
+    sealed(false, key, nonce, data, text, room, tag)
 }
 
 // Writes the text of ciphertext to room, whose rest keeps its bytes, if tag is its tag, and as many zeros if it is not.
@@ -58,23 +46,33 @@ pub fn open(
     ensures { λ r. ⌜ Opening gift r (inputs (now (key .entry)) (now (nonce .entry)) (now («data» .entry))
         (now (ciphertext .entry))) (now (tag .entry)) (now (room .entry)) (now (room .exit)) ⌝ }
 {
-    let refused = refusal(
-        key.len(),
-        nonce.len(),
-        data.len(),
-        ciphertext.len(),
-        tag.len(),
-        room.len(),
-    );
-    if refused != 0 {
-        return refused;
-    }
-    let t = run(true, key, nonce, data, ciphertext, room);
-    if words::equal(words::load(tag, 0, 16), t) {
-        return 0;
-    }
-    wipe(room, ciphertext.len());
-    7
+    opened(false, key, nonce, data, ciphertext, tag, room)
+}
+
+// Where a buffer is worked on in place, there is no text beside it.
+const NO_TEXT: [u8; 0] = [];
+
+// Seals the text that buffer holds in place: `seal` with the buffer for both text and room.
+pub fn seal_in_place(
+    key: &[u8],
+    nonce: &[u8],
+    data: &[u8],
+    buffer: &mut [u8],
+    tag: &mut [u8],
+) -> u32
+    ensures { λ r. ⌜ Sealing gift r (inputs (now (key .entry)) (now (nonce .entry)) (now («data» .entry))
+        (now (buffer .entry))) (now (buffer .entry)) (now (tag .entry)) (now (buffer .exit)) (now (tag .exit)) ⌝ }
+{
+    sealed(true, key, nonce, data, &NO_TEXT, buffer, tag)
+}
+
+// Opens the ciphertext that buffer holds in place: `open` with the buffer for both ciphertext and room. If tag is not
+// its tag, the ciphertext is gone too.
+pub fn open_in_place(key: &[u8], nonce: &[u8], data: &[u8], buffer: &mut [u8], tag: &[u8]) -> u32
+    ensures { λ r. ⌜ Opening gift r (inputs (now (key .entry)) (now (nonce .entry)) (now («data» .entry))
+        (now (buffer .entry))) (now (tag .entry)) (now (buffer .entry)) (now (buffer .exit)) ⌝ }
+{
+    opened(true, key, nonce, data, &NO_TEXT, tag, buffer)
 }
 
 // The associated data of the short forms.
@@ -96,6 +94,57 @@ pub fn open_short(key: &[u8], nonce: &[u8], ciphertext: &[u8], tag: &[u8], room:
     open(key, nonce, &SHORT_DATA, ciphertext, tag, room)
 }
 
+// Seals text or, in place, what room holds.
+fn sealed(
+    in_place: bool,
+    key: &[u8],
+    nonce: &[u8],
+    data: &[u8],
+    text: &[u8],
+    room: &mut [u8],
+    tag: &mut [u8],
+) -> u32
+    ensures { λ r. ⌜ Sealing gift r (inputs (now (key .entry)) (now (nonce .entry)) (now («data» .entry))
+        (source «in_place» (now (text .entry)) (now (room .entry)))) (now (room .entry)) (now (tag .entry))
+        (now (room .exit)) (now (tag .exit)) ⌝ }
+{
+    let n = source_len(in_place, text, room);
+    let refused = refusal(key.len(), nonce.len(), data.len(), n, tag.len(), room.len());
+    if refused != 0 {
+        return refused;
+    }
+    let t = run(false, in_place, key, nonce, data, text, room);
+    words::store(tag, 0, 16, t);
+    0
+}
+
+// Opens ciphertext or, in place, what room holds.
+fn opened(
+    in_place: bool,
+    key: &[u8],
+    nonce: &[u8],
+    data: &[u8],
+    ciphertext: &[u8],
+    tag: &[u8],
+    room: &mut [u8],
+) -> u32
+    ensures { λ r. ⌜ Opening gift r (inputs (now (key .entry)) (now (nonce .entry)) (now («data» .entry))
+        (source «in_place» (now (ciphertext .entry)) (now (room .entry)))) (now (tag .entry)) (now (room .entry))
+        (now (room .exit)) ⌝ }
+{
+    let n = source_len(in_place, ciphertext, room);
+    let refused = refusal(key.len(), nonce.len(), data.len(), n, tag.len(), room.len());
+    if refused != 0 {
+        return refused;
+    }
+    let t = run(true, in_place, key, nonce, data, ciphertext, room);
+    if words::equal(words::load(tag, 0, 16), t) {
+        return 0;
+    }
+    wipe(room, n);
+    7
+}
+
 // The refusal that the lengths call for, or 0: the rows from the last up.
 fn refusal(key: usize, nonce: usize, data: usize, text: usize, tag: usize, room: usize) -> u32
     ensures { λ r. ⌜ r ≡ numberOf (rows key nonce «data» text tag room) ⌝ }
@@ -108,19 +157,28 @@ fn refusal(key: usize, nonce: usize, data: usize, text: usize, tag: usize, room:
     row(key != 16, 1, two)
 }
 
-// Both ways, where nothing is refused: writes what comes out to room, as far as that goes, and answers the tag.
-fn run(opening: bool, key: &[u8], nonce: &[u8], data: &[u8], text: &[u8], room: &mut [u8]) -> Block
+// Both ways, where nothing is refused: works on text or, in place, on what room holds; writes what comes out to room,
+// as far as that goes, and answers the tag.
+fn run(
+    opening: bool,
+    in_place: bool,
+    key: &[u8],
+    nonce: &[u8],
+    data: &[u8],
+    text: &[u8],
+    room: &mut [u8],
+) -> Block
     requires { ⌜ (length (now key) ≡ 16) × (length (now nonce) ≡ 12) ⌝ }
     ensures { λ r. ⌜ (r ≡ halves (tag (gift (now (key .entry))) opening (now (nonce .entry)) (now («data» .entry))
-        (now (text .entry))))
+        (source «in_place» (now (text .entry)) (now (room .entry)))))
         × (now (room .exit) ≡ sets (now (room .entry)) 0
         (outputs (gift (now (key .entry))) opening (now (nonce .entry)) (now («data» .entry))
-        (now (text .entry)))) ⌝ }
+        (source «in_place» (now (text .entry)) (now (room .entry))))) ⌝ }
 {
     let e = hyena_blocks::keyed::keyed_of(words::load(key, 0, 16));
-    let s = hyena_blocks::start(e, nonce, data.len(), text.len());
+    let s = hyena_blocks::start(e, nonce, data.len(), source_len(in_place, text, room));
     let t = all_data(e, s, data);
-    let u = all_text(opening, e, t, text, room);
+    let u = all_text(opening, in_place, e, t, text, room);
     hyena_blocks::tag_of(e, u)
 }
 
@@ -147,29 +205,50 @@ fn all_data(e: Keyed, b: StateY, data: &[u8]) -> StateX
     )
 }
 
-// All of the text. What comes out goes to room; what that is too short for is not written.
-fn all_text(opening: bool, e: Keyed, t: StateX, text: &[u8], room: &mut [u8]) -> StateX
-    ensures { λ r. ⌜ (r ≡ heldX (afterText (enciphers e) opening (readX t) (now (text .entry))))
+// All of text or, in place, of what room holds. What comes out goes to room; what that is too short for is not written.
+fn all_text(
+    opening: bool,
+    in_place: bool,
+    e: Keyed,
+    t: StateX,
+    text: &[u8],
+    room: &mut [u8],
+) -> StateX
+    ensures { λ r. ⌜ (r ≡ heldX (afterText (enciphers e) opening (readX t)
+        (source «in_place» (now (text .entry)) (now (room .entry)))))
         × (now (room .exit) ≡ sets (now (room .entry)) 0
-        (afterText (enciphers e) opening (readX t) (now (text .entry)) .out)) ⌝ }
+        (afterText (enciphers e) opening (readX t)
+        (source «in_place» (now (text .entry)) (now (room .entry))) .out)) ⌝ }
 {
-    if text.len() == 0 {
+    let len = source_len(in_place, text, room);
+    if len == 0 {
         return t;
     }
-    let n = (text.len() - 1) / 16;
+    let n = (len - 1) / 16;
     let mut s = t;
     let mut i = 0;
     while i < n {
-        s = text_part(opening, e, s, 1, text, 16 * i, 16, room);
+        s = text_part(opening, in_place, e, s, 1, text, 16 * i, 16, room);
         i += 1;
     }
-    let last = text.len() - 16 * n;
-    text_part(opening, e, s, if_full(last, 2, 3), text, 16 * n, last, room)
+    let last = len - 16 * n;
+    text_part(
+        opening,
+        in_place,
+        e,
+        s,
+        if_full(last, 2, 3),
+        text,
+        16 * n,
+        last,
+        room,
+    )
 }
 
-// The block of n bytes of text from at on, what comes out of it to the same place of room.
+// The block of n bytes from at on, what comes out of it to the same place of room.
 fn text_part(
     opening: bool,
+    in_place: bool,
     e: Keyed,
     t: StateX,
     k: u64,
@@ -178,14 +257,35 @@ fn text_part(
     n: usize,
     room: &mut [u8],
 ) -> StateX
-    requires { ⌜ (n ≤ 16) × (at + n ≤ length (now text)) ⌝ }
-    ensures { λ r. ⌜ (r ≡ heldX (textBlock (enciphers e) opening k (readX t) (part (now (text .entry)) at n)))
-        × (now (room .exit) ≡ sets (now (room .entry)) at (output (part (now (text .entry)) at n)
+    requires { ⌜ (n ≤ 16) × (at + n ≤ length (source «in_place» (now text) (now room))) ⌝ }
+    ensures { λ r. ⌜ (r ≡ heldX (textBlock (enciphers e) opening k (readX t)
+        (part (source «in_place» (now (text .entry)) (now (room .entry))) at n)))
+        × (now (room .exit) ≡ sets (now (room .entry)) at
+        (output (part (source «in_place» (now (text .entry)) (now (room .entry))) at n)
         (enciphers e (value (t .x))))) ⌝ }
 {
-    let u = hyena_blocks::text_block(opening, e, t, k, words::load(text, at, n), n);
+    let d = source_block(in_place, text, room, at, n);
+    let u = hyena_blocks::text_block(opening, e, t, k, d, n);
     words::store(room, at, n, u.out);
     u.state
+}
+
+// The block of n bytes from at on.
+fn source_block(in_place: bool, text: &[u8], room: &[u8], at: usize, n: usize) -> Block
+    ensures { λ r. ⌜ r ≡ halves (loaded (source «in_place» (now (text .entry)) (now (room .entry))) at n) ⌝ }
+{
+    if in_place {
+        words::load(room, at, n)
+    } else {
+        words::load(text, at, n)
+    }
+}
+
+// How many bytes there are to be worked on.
+fn source_len(in_place: bool, text: &[u8], room: &[u8]) -> usize
+    ensures { λ r. ⌜ r ≡ length (source «in_place» (now (text .entry)) (now (room .entry))) ⌝ }
+{
+    if in_place { room.len() } else { text.len() }
 }
 
 // a for a last block of n bytes that is full, b for one that is partial.

@@ -155,7 +155,7 @@ module _ (key «data» card room : List ℕ) {n r : ℕ} (en : n ≡ lengthIn ca
   open-length e = omega (arith, en, whole (judged-clear opened-by weighed tt e))
     where
       whole : Clear opened-by → length card ≡ lengthIn card + 30
-      whole (key, («data», (room, (short, (long, none))))) =
+      whole (key, («data», (short, (long, (room, none))))) =
           omega (
             arith,
             ltb-false (length card) (lengthIn card + 30) short,

@@ -97,7 +97,7 @@ module _ (key nonce «data» text : List ℕ) (lk : length key ≡ 16) (ln : len
         let f : lengthIn card ≤ length room = omega (arith, says) in
         let l : lengthIn card + 30 ≤ length card = omega (arith, says, length-card) in
         let m : length card ≤ lengthIn card + 30 = omega (arith, says, length-card) in
-        (ap not (eq-eqb _ _ lk), (le-ltb _ _ la, (le-ltb _ _ f, (le-ltb _ _ l, (le-ltb _ _ m, tt)))))
+        (ap not (eq-eqb _ _ lk), (le-ltb _ _ la, (le-ltb _ _ l, (le-ltb _ _ m, (le-ltb _ _ f, tt)))))
 
     opened : opening key «data» card room ≡ answered 0 (over text room)
     unfolding opening

@@ -53,15 +53,15 @@ ciphertextIn card = part card 14 (lengthIn card)
 abbrev pub tagIn : List ℕ → List ℕ
 tagIn card = drop (14 + lengthIn card) card
 
--- of the lengths, the text's being the one that the card says: 1, 3 and 6 as above, 12 "cut short", 15 "bytes left
--- over"
+-- of the lengths, the text's being the one that the card says: 1 and 3 as above, 12 "cut short", 15 "bytes left over",
+-- and 6 as above, last, since only a whole card says how long a room must be
 abbrev pub openRows : ℕ → ℕ → ℕ → ℕ → ℕ → List Row
 openRows key «data» card text room =
     record { applies = not (eqb key 16); number = 1 }
     ∷ record { applies = ltb 65536 «data»; number = 3 }
-    ∷ record { applies = ltb room text; number = 6 }
     ∷ record { applies = ltb card (text + 30); number = 12 }
     ∷ record { applies = ltb (text + 30) card; number = 15 }
+    ∷ record { applies = ltb room text; number = 6 }
     ∷ []
 
 -- a card that is whole is opened: 7, or its text

@@ -67,10 +67,10 @@ fn open_refusal(key: usize, data: usize, card: usize, text: usize, room: usize) 
     ensures { λ r. ⌜ r ≡ numberOf (openRows key «data» card text room) ⌝ }
 {
     let whole = text + 30;
-    let fifteen = row(whole < card, 15, 0);
+    let six = row(room < text, 6, 0);
+    let fifteen = row(whole < card, 15, six);
     let twelve = row(card < whole, 12, fifteen);
-    let six = row(room < text, 6, twelve);
-    let three = row(data > 65536, 3, six);
+    let three = row(data > 65536, 3, twelve);
     row(key != 16, 1, three)
 }
 

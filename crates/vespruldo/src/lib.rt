@@ -4,7 +4,11 @@ use books::Found;
 use drawer::Drawer;
 use drawer::Drawn;
 use drawer::DrawnIv;
+use drawer_file::Loaded;
+use drawer_file::Stored;
 ghost use mathlib.Core.Path.{_≡_};
+ghost use mathlib.Core.Bool.{cond};
+ghost use Rattle.words.specs.Search.{same};
 ghost use Rattle.gift.specs.Entry as gift;
 ghost use Rattle.hyena.specs.Entry as hyena;
 ghost use Rattle.chacha.specs.Entry as chacha;
@@ -12,6 +16,8 @@ ghost use Rattle.blake.specs.Entry as blake;
 ghost use Rattle.lioness.specs.Entry as lioness;
 ghost use Rattle.drawer.specs.Drawer.{forNonce, forIv, started, Drawing};
 ghost use Rattle.books.specs.Entry as books;
+ghost use Rattle.sealed_card.specs.SealedCard as sealedCard;
+ghost use Rattle.drawer_file.specs.DrawerFile.{storing, Loading};
 
 #[no_mangle]
 pub extern "C" fn vespruldo_gift_encipher(key: &[u8], block: &mut [u8]) -> u32
@@ -87,6 +93,57 @@ pub extern "C" fn vespruldo_open_short(
 }
 
 #[no_mangle]
+pub extern "C" fn vespruldo_seal_in_place(
+    key: &[u8],
+    nonce: &[u8],
+    data: &[u8],
+    buffer: &mut [u8],
+    tag: &mut [u8],
+) -> u32
+    ensures { λ r. ⌜ hyena.Sealing hyena.gift r (hyena.inputs (now (key .entry)) (now (nonce .entry))
+        (now («data» .entry)) (now (buffer .entry))) (now (buffer .entry)) (now (tag .entry)) (now (buffer .exit))
+        (now (tag .exit)) ⌝ }
+{
+    hyena::seal_in_place(key, nonce, data, buffer, tag)
+}
+
+#[no_mangle]
+pub extern "C" fn vespruldo_open_in_place(
+    key: &[u8],
+    nonce: &[u8],
+    data: &[u8],
+    buffer: &mut [u8],
+    tag: &[u8],
+) -> u32
+    ensures { λ r. ⌜ hyena.Opening hyena.gift r (hyena.inputs (now (key .entry)) (now (nonce .entry))
+        (now («data» .entry)) (now (buffer .entry))) (now (tag .entry)) (now (buffer .entry)) (now (buffer .exit)) ⌝ }
+{
+    hyena::open_in_place(key, nonce, data, buffer, tag)
+}
+
+#[no_mangle]
+pub extern "C" fn vespruldo_card_seal(
+    key: &[u8],
+    nonce: &[u8],
+    data: &[u8],
+    text: &[u8],
+    room: &mut [u8],
+) -> u32
+    ensures { λ r. ⌜ sealedCard.Sealing r (hyena.inputs (now (key .entry)) (now (nonce .entry)) (now («data» .entry))
+        (now (text .entry))) (now (room .entry)) (now (room .exit)) ⌝ }
+{
+    sealed_card::seal(key, nonce, data, text, room)
+}
+
+#[no_mangle]
+pub extern "C" fn vespruldo_card_open(key: &[u8], data: &[u8], card: &[u8], room: &mut [u8]) -> u32
+    ensures { λ r. ⌜ sealedCard.Opening r (now (key .entry)) (now («data» .entry)) (now (card .entry))
+        (now (room .entry)) (now (room .exit)) ⌝ }
+{
+    sealed_card::open(key, data, card, room)
+}
+
+#[no_mangle]
 pub extern "C" fn vespruldo_chacha20(key: &[u8], nonce: &[u8], start: u32, text: &mut [u8]) -> u32
     ensures { λ r. ⌜ chacha.Streaming r (now (key .entry)) (now (nonce .entry)) start (now (text .entry))
         (now (text .exit)) ⌝ }
@@ -140,9 +197,47 @@ pub extern "C" fn vespruldo_drawer_iv(drawer: Drawer) -> DrawnIv
 }
 
 #[no_mangle]
+pub extern "C" fn vespruldo_drawer_store(drawer: Drawer) -> Stored
+    ensures { λ r. ⌜ r .bytes ≡ storing drawer ⌝ }
+{
+    drawer_file::store(drawer)
+}
+
+#[no_mangle]
+pub extern "C" fn vespruldo_drawer_load(bytes: &[u8]) -> Loaded
+    ensures { λ r. ⌜ Loading (r .number) (now (bytes .entry)) (r .drawer) ⌝ }
+{
+    drawer_file::load(bytes)
+}
+
+#[no_mangle]
 pub extern "C" fn vespruldo_key_find(this_term: &[u8], last_term: &[u8], class: u16) -> Found
     ensures { λ r. ⌜ books.Finding (r .number) (now («this_term» .entry)) (now («last_term» .entry)) class (r .book)
         (r .offset) ⌝ }
 {
     books::find(this_term, last_term, class)
+}
+
+#[no_mangle]
+pub extern "C" fn vespruldo_same(a: &[u8], b: &[u8]) -> u32
+    ensures { λ r. ⌜ r ≡ cond (same (now (a .entry)) (now (b .entry))) 1 0 ⌝ }
+{
+    if words::same(a, b) { 1 } else { 0 }
+}
+
+// The version 0.2.0, as 10000 times the first number, 100 times the second and the third.
+#[no_mangle]
+pub extern "C" fn vespruldo_version() -> u32
+    ensures { λ r. ⌜ r ≡ 200 ⌝ }
+{
+    200
+}
+
+// What the header has every caller refer to: the number in the name goes up when a signature or a struct of an older
+// interface changes, and a caller that was compiled before then does not link.
+#[no_mangle]
+pub extern "C" fn vespruldo_interface_1() -> u32
+    ensures { λ r. ⌜ r ≡ 1 ⌝ }
+{
+    1
 }

@@ -9,7 +9,7 @@ use native.Mathlib.Nat.{not-suc-le-zero, le-of-suc-le-suc}
 use native.Mathlib.Numerals.{add-one}
 use native.Mathlib.Omega.{arith}
 use lib.ListN.{length, getD, take, drop, set, replicate, length-set, length-take, length-drop, drop-of-length-le}
-use lib.Seq.{sets, sets-eq, set-out, take-nil, ext-getD, getD-set-same, getD-set-other}
+use lib.Seq.{sets, sets-eq, set-out, take-nil, ext-getD, getD-set-same, getD-set-other, drop-set-lt}
 use Rattle.words.specs.Digits.{tab}
 
 module _ {A : Type 0} where
@@ -85,6 +85,11 @@ module _ {A : Type 0} where
   pub sets-append : (l : List A) (i : ℕ) (a b : List A) → sets (sets l i a) (i + length a) b ≡ sets l i (a ++ b)
   sets-append l i [] b = rw add-zero
   sets-append l i (x ∷ a) b = rw (add-suc, ← suc-add i (length a)) (sets-append (set l i x) (suc i) a b)
+
+  -- what lies behind a run is as it was
+  pub drop-sets : (l : List A) (i : ℕ) (vs : List A) (k : ℕ) → i + length vs ≤ k → drop k (sets l i vs) ≡ drop k l
+  drop-sets l i [] k h = refl
+  drop-sets l i (a ∷ vs) k h = drop-sets (set l i a) (suc i) vs k (omega arith) ∙ drop-set-lt k l i a (omega arith)
 
   sets-out : (l : List A) (i : ℕ) (vs : List A) → length l ≤ i → sets l i vs ≡ l
   sets-out l i [] h = refl

@@ -1,16 +1,18 @@
 -- The loops that compare two lists, and that look for a number in one.
 use mathlib.Core.Path.{_≡_, refl, sym, ap, ap₂, _∙_}
-use mathlib.Core.Bool.{Bool, true, false, _&&_, true≢false, and-eq-true-iff}
+use mathlib.Core.Bool.{Bool, true, false, _&&_, true≢false, and-eq-true-iff, and-true, and-false, and-assoc}
 use mathlib.Core.List.{List, [], _∷_}
 use Prim.Native.Nat.{ℕ, suc, _+_, _≤_, _<_, min}
-use native.Mathlib.Decide.{decLe}
+use native.Mathlib.Decide.{decLe, ℕ-discrete}
 use native.Mathlib.Numerals.{add-one}
 use native.Mathlib.Omega.{arith}
+use lib.Bits.{bitOr, bitXor, xor-self, or-zero-r}
 use lib.Dec.{eqb}
 use lib.ListN.{length, drop, getD, drop-of-length-le}
 use lib.Seq.{drop-cons}
 use borrow.Author.Tests.{eqb-true, eq-eqb, ne-eqb}
 use Rattle.words.specs.Search.{same, placeOf, finding}
+use Rattle.words.proofs.ExclusiveOr.{xor-zero, or-zero}
 
 -- ---- whether two lists are the same
 
@@ -32,30 +34,36 @@ unfolding same
 other-length [] [] h = absurd (h refl)
 other-length [] (c ∷ t) h = refl
 other-length (b ∷ s) [] h = refl
-other-length (b ∷ s) (c ∷ t) h = let e : same s t ≡ false = other-length s t (λ z. h (ap suc z)) in rw e (by (eqb b c))
-  where
-    by : (u : Bool) → u && false ≡ false
-    by true = refl
-    by false = refl
+other-length (b ∷ s) (c ∷ t) h = ap (λ (u : Bool). eqb b c && u) (other-length s t (λ z. h (ap suc z))) ∙ and-false (eqb b c)
 
-module _ (s t : List ℕ) (i : ℕ) (h : i < length s) (l : length s ≡ length t) where
-  next : same (drop i s) (drop i t) ≡ eqb (getD s i 0) (getD t i 0) && same (drop (suc i) s) (drop (suc i) t)
+-- what has differed so far is joined with what differs next
+joined : (d a b : ℕ) → eqb (bitOr d (bitXor a b)) 0 ≡ eqb d 0 && eqb a b
+joined d a b =
+    elim (ℕ-discrete a b) [
+      | yes e ↦ ap (λ (x : ℕ). eqb (bitOr d x) 0) (ap (λ (x : ℕ). bitXor x b) e ∙ xor-self b)
+          ∙ ap (λ (x : ℕ). eqb x 0) (or-zero-r d) ∙ sym (ap (λ (u : Bool). eqb d 0 && u) (eq-eqb a b e) ∙ and-true (eqb d 0))
+      | no n ↦ ne-eqb (bitOr d (bitXor a b)) 0 (λ z. n (xor-zero a b (or-zero d (bitXor a b) z .1)))
+          ∙ sym (ap (λ (u : Bool). eqb d 0 && u) (ne-eqb a b n) ∙ and-false (eqb d 0))
+    ]
+
+module _ (s t : List ℕ) (l : length s ≡ length t) where
+  pub same-next : (i d : ℕ) {u : Bool} → i < length s → (eqb d 0 && same (drop i s) (drop i t)) ≡ u
+      → (eqb (bitOr d (bitXor (getD s i 0) (getD t i 0))) 0 && same (drop (i + 1) s) (drop (i + 1) t)) ≡ u
   unfolding same
-  next = let h′ : i < length t = omega arith in rw (drop-cons s i 0 h, drop-cons t i 0 h′)
+  same-next i d h inv =
+      let h′ : i < length t = omega arith in
+      let rest = same (drop (suc i) s) (drop (suc i) t) in
+      let e : same (drop i s) (drop i t) ≡ (eqb (getD s i 0) (getD t i 0) && rest) =
+      rw (drop-cons s i 0 h, drop-cons t i 0 h′) in
+      rw add-one (ap (λ (v : Bool). v && rest) (joined d (getD s i 0) (getD t i 0))
+      ∙ and-assoc (eqb d 0) (eqb (getD s i 0) (getD t i 0)) rest ∙ ap (λ (v : Bool). eqb d 0 && v) (sym e)) ∙ inv
 
-  pub same-next : {u : Bool} → getD s i 0 ≡ getD t i 0 → same (drop i s) (drop i t) ≡ u
-      → same (drop (i + 1) s) (drop (i + 1) t) ≡ u
-  same-next e inv = rw add-one (sym (next ∙ rw (eq-eqb (getD s i 0) (getD t i 0) e)) ∙ inv)
-
-  pub differ : {u : Bool} → (getD s i 0 ≡ getD t i 0 → ⊥) → same (drop i s) (drop i t) ≡ u → false ≡ u
-  differ ne inv = sym (next ∙ rw (ne-eqb (getD s i 0) (getD t i 0) ne)) ∙ inv
-
-pub same-end : (s t : List ℕ) (i : ℕ) {u : Bool} → length s ≤ i → length s ≡ length t → same (drop i s) (drop i t) ≡ u
-    → true ≡ u
-unfolding same
-same-end s t i h l inv =
-    sym (let h′ : length t ≤ i = omega arith in rw (drop-of-length-le s {i = i} h, drop-of-length-le t {i = i} h′))
-    ∙ inv
+  pub same-end : (i d : ℕ) {u : Bool} → length s ≤ i → (eqb d 0 && same (drop i s) (drop i t)) ≡ u → eqb d 0 ≡ u
+  unfolding same
+  same-end i d h inv =
+      let h′ : length t ≤ i = omega arith in
+      let e : same (drop i s) (drop i t) ≡ true = rw (drop-of-length-le s {i = i} h, drop-of-length-le t {i = i} h′) in
+      sym (ap (λ (v : Bool). eqb d 0 && v) e ∙ and-true (eqb d 0)) ∙ inv
 
 -- ---- where a number first stands
 

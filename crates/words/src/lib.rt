@@ -101,21 +101,21 @@ fn byte(s: &[u8], at: usize) -> u16
     if at < s.len() { s[at] as u16 } else { 0 }
 }
 
-// Whether two slices have the same bytes.
+// Whether two slices have the same bytes. What differs is gathered and looked at once, at the end: time tells the
+// lengths alone.
 pub fn same(s: &[u8], t: &[u8]) -> bool
     ensures { λ r. ⌜ r ≡ Search·same (now (s .entry)) (now (t .entry)) ⌝ }
 {
     if s.len() != t.len() {
         return false;
     }
+    let mut differing = 0;
     let mut i = 0;
     while i < s.len() {
-        if s[i] != t[i] {
-            return false;
-        }
+        differing = differing | (s[i] ^ t[i]);
         i += 1;
     }
-    true
+    differing == 0
 }
 
 // The first place from `from` on, before `to`, where s has b; if there is none, the end of what was searched.

@@ -1,7 +1,7 @@
-use Rattle.drawer_file.proofs.Keeping.{kept-is}
+use Rattle.drawer_file.proofs.Storing.{stored-is}
 use borrow.Author.Needs.{needs}
-use Rattle.drawer_file.proofs.keep.Statement.{statement}
-use Rattle.drawer_file.proofs.keep.Tie as tie
+use Rattle.drawer_file.proofs.store.Statement.{statement}
+use Rattle.drawer_file.proofs.store.Tie as tie
 
 next-nonce-requires : tie.Need-next-nonce-requires
 next-nonce-requires c κs = search needs
@@ -42,11 +42,11 @@ returns c =
     let e = f .before .before .before .before in
     let g = e .before .before .before .before in
     let s = g .before .before .before .before in
-    kept-is (s .before .args .d) _ _ _ _ _ (s .next-nonce .ensures) (g .digest .ensures) (e .add .ensures)
+    stored-is (s .before .args .d) _ _ _ _ _ (s .next-nonce .ensures) (g .digest .ensures) (e .add .ensures)
     (f .add2 .ensures)
 
-pub keep-spec : {M : Type 1} → statement M
-keep-spec =
+pub store-spec : {M : Type 1} → statement M
+store-spec =
     tie.close
     (tie.spec
     next-nonce-requires

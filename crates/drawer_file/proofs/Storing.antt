@@ -1,6 +1,6 @@
--- The drawer file: what the code makes of it, that what is kept is read back, and that nothing else is taken.
+-- The drawer file: what the code makes of it, that what is stored is read back, and that nothing else is taken.
 use mathlib.Core.Path.{_≡_, refl, sym, ap, ap₂, _∙_}
-use mathlib.Core.Bool.{Bool, true, false, true≢false}
+use mathlib.Core.Bool.{Bool, true, false}
 use mathlib.Core.List.{List, [], _++_}
 use Prim.Native.Nat.{ℕ, _+_, _-_, _%_, _^_, _<_}
 use native.Mathlib.Nat.{mod-eq-of-lt, zero-add}
@@ -23,15 +23,15 @@ use Rattle.blake.proofs.Hashing.{digesting-done, length-digest}
 use Rattle.drawer.specs.declared.Drawer.{Drawer}
 use Rattle.drawer.specs.Drawer.{started, nonce}
 use Rattle.drawer.proofs.Steps.{length-nonce}
-use Rattle.drawer_file.specs.DrawerFile.{keeping, drawerIn, recalling}
+use Rattle.drawer_file.specs.DrawerFile.{storing, drawerIn, loading, Loading}
 
 -- ---- what is written
 
-pub kept-is : (d : Drawer) (n : ℕ) (st dg f f′ : List ℕ) → st ≡ nonce d
+pub stored-is : (d : Drawer) (n : ℕ) (st dg f f′ : List ℕ) → st ≡ nonce d
     → answered n dg ≡ digesting [] st (replicate 32 0)
-    → f ≡ plusAt 0 (replicate 44 0) (part st 0 12) → f′ ≡ plusAt 12 f (part dg 0 32) → f′ ≡ keeping d
-unfolding keeping
-kept-is d n st dg f f′ es ed e e′ =
+    → f ≡ plusAt 0 (replicate 44 0) (part st 0 12) → f′ ≡ plusAt 12 f (part dg 0 32) → f′ ≡ storing d
+unfolding storing
+stored-is d n st dg f f′ es ed e e′ =
     let ls : length st ≡ 12 = ap length es ∙ length-nonce d in
     let D = digest [] st 32 in
     let ed′ : dg ≡ D = ap (λ (a : Answer (List ℕ)). a .outcome)
@@ -57,34 +57,33 @@ module _ (s : List ℕ) (h : Bytes s) where
       ap₂ started (ap (λ (x : ℕ). x % 4294967296) (loaded-word s h 0 4 e (lit≤ tt)) ∙ mod-eq-of-lt (word-lt s h 0 4))
       (loaded-word s h 4 8 e′ (lit≤ tt))
 
-module _ (s file : List ℕ) (d : Drawer) (ed : d ≡ drawerIn s) (ef : file ≡ keeping d) where
-  judged : same s file ≡ same s (keeping (drawerIn s))
-  judged = ap (same s) (ef ∙ ap keeping ed)
+module _ (s file : List ℕ) (d : Drawer) (ed : d ≡ drawerIn s) (ef : file ≡ storing d) where
+  judged : same s file ≡ same s (storing (drawerIn s))
+  judged = ap (same s) (ef ∙ ap storing ed)
 
-  pub taken-is : same s file ≡ true → record { good = true; drawer = d } ≡ recalling s
-  unfolding recalling
-  taken-is e = rw (sym judged ∙ e) (ap (λ (x : Drawer). record { good = true; drawer = x }) ed)
+  pub taken-is : same s file ≡ true → Loading 0 s d
+  unfolding loading
+  taken-is e = rw (sym judged ∙ e) (ap (answered 0) ed)
 
-  pub refused-is : same s file ≡ false → record { good = false; drawer = started 0 (2 ^ 64 - 1) } ≡ recalling s
-  unfolding recalling
+  pub refused-is : same s file ≡ false → Loading 106 s (started 0 (2 ^ 64 - 1))
+  unfolding loading
   refused-is e = rw (sym judged ∙ e)
 
 -- ---- there and back
 
-in-kept : (d : Drawer) → d .reader < 2 ^ 32 → d .count < 2 ^ 64 → drawerIn (keeping d) ≡ d
-unfolding keeping nonce bytes
-in-kept d hr hc = ap₂ started (number-bytes 4 (d .reader) hr) (number-bytes 8 (d .count) hc)
+in-stored : (d : Drawer) → d .reader < 2 ^ 32 → d .count < 2 ^ 64 → drawerIn (storing d) ≡ d
+unfolding storing nonce bytes
+in-stored d hr hc = ap₂ started (number-bytes 4 (d .reader) hr) (number-bytes 8 (d .count) hc)
 
-pub recalling-kept : (d : Drawer) → d .reader < 2 ^ 32 → d .count < 2 ^ 64
-    → recalling (keeping d) ≡ record { good = true; drawer = d }
-unfolding recalling
-recalling-kept d hr hc = rw (in-kept d hr hc, same-refl (keeping d))
+pub loading-stored : (d : Drawer) → d .reader < 2 ^ 32 → d .count < 2 ^ 64 → loading (storing d) ≡ answered 0 d
+unfolding loading
+loading-stored d hr hc = rw (in-stored d hr hc, same-refl (storing d))
 
 -- nothing else is taken
-pub kept-recalling : (s : List ℕ) → recalling s .good ≡ true → s ≡ keeping (recalling s .drawer)
-unfolding recalling
-kept-recalling s = by (same s (keeping (drawerIn s))) refl
+pub stored-loading : (s : List ℕ) → loading s .number ≡ 0 → s ≡ storing (loading s .outcome)
+unfolding loading
+stored-loading s = by (same s (storing (drawerIn s))) refl
   where
-    by : (t : Bool) → same s (keeping (drawerIn s)) ≡ t → recalling s .good ≡ true → s ≡ keeping (recalling s .drawer)
-    by true et e = rw et (same-is s (keeping (drawerIn s)) et)
-    by false et e = absurd (true≢false (sym (rw et at e)))
+    by : (t : Bool) → same s (storing (drawerIn s)) ≡ t → loading s .number ≡ 0 → s ≡ storing (loading s .outcome)
+    by true et e = rw et (same-is s (storing (drawerIn s)) et)
+    by false et e = absurd (omega (arith, rw et at e))

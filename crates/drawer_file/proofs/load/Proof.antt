@@ -1,10 +1,10 @@
 use mathlib.Core.Path.{sym, _∙_}
 use native.Mathlib.Omega.{arith}
 use denote.Ref.{now}
-use Rattle.drawer_file.proofs.Keeping.{drawer-is, taken-is, refused-is}
+use Rattle.drawer_file.proofs.Storing.{drawer-is, taken-is, refused-is}
 use borrow.Author.Needs.{needs}
-use Rattle.drawer_file.proofs.recall.Statement.{statement}
-use Rattle.drawer_file.proofs.recall.Tie as tie
+use Rattle.drawer_file.proofs.load.Statement.{statement}
+use Rattle.drawer_file.proofs.load.Tie as tie
 
 load-requires : tie.Need-load-requires
 load-requires c κs = search needs
@@ -18,8 +18,8 @@ cast-start c = search needs
 start-requires : tie.Need-start-requires
 start-requires c κs = search needs
 
-keep-requires : tie.Need-keep-requires
-keep-requires c κs = search needs
+store-requires : tie.Need-store-requires
+store-requires c κs = search needs
 
 slice-aggregate-same : tie.Need-slice-aggregate-same
 slice-aggregate-same c = search needs
@@ -30,12 +30,12 @@ same-requires c κs = search needs
 returns : tie.Need-returns
 returns c =
     let m = c .before in
-    let w = m .before .before in
+    let w = m .before .before .before in
     let k = w .before .before .before .before .before in
     let a = k .before .args in
-    let ed = drawer-is (now (a .s)) (λ i. omega (arith, k .shared-slice-known .given i)) _ _
+    let ed = drawer-is (now (a .bytes)) (λ i. omega (arith, k .shared-slice-known .given i)) _ _
     (w .before .before .before .before .load .ensures) (w .before .before .before .load2 .ensures) in
-    taken-is (now (a .s)) _ _ (w .before .start .ensures ∙ ed) (w .keep .ensures)
+    taken-is (now (a .bytes)) _ _ (w .before .start .ensures ∙ ed) (w .store .ensures)
     (sym (m .same .ensures) ∙ c .if1 .taken)
 
 start-requires-2 : tie.Need-start-requires-2
@@ -44,23 +44,23 @@ start-requires-2 c κs = search needs
 returns-2 : tie.Need-returns-2
 returns-2 c =
     let m = c .before .before in
-    let w = m .before .before in
+    let w = m .before .before .before in
     let k = w .before .before .before .before .before in
     let a = k .before .args in
-    let ed = drawer-is (now (a .s)) (λ i. omega (arith, k .shared-slice-known .given i)) _ _
+    let ed = drawer-is (now (a .bytes)) (λ i. omega (arith, k .shared-slice-known .given i)) _ _
     (w .before .before .before .before .load .ensures) (w .before .before .before .load2 .ensures) in
-    rw (c .start2 .ensures) (refused-is (now (a .s)) _ _ (w .before .start .ensures ∙ ed) (w .keep .ensures)
+    rw (c .start2 .ensures) (refused-is (now (a .bytes)) _ _ (w .before .start .ensures ∙ ed) (w .store .ensures)
     (sym (m .same .ensures) ∙ c .before .if1 .left))
 
-pub recall-spec : {M : Type 1} → statement M
-recall-spec =
+pub load-spec : {M : Type 1} → statement M
+load-spec =
     tie.close
     (tie.spec
     load-requires
     load-requires-2
     cast-start
     start-requires
-    keep-requires
+    store-requires
     slice-aggregate-same
     same-requires
     returns
