@@ -7,7 +7,6 @@ use drawer::DrawnIv;
 use drawer_file::Loaded;
 use drawer_file::Stored;
 ghost use mathlib.Core.Path.{_≡_};
-ghost use mathlib.Core.Bool.{cond};
 ghost use Rattle.words.specs.Search.{same};
 ghost use Rattle.gift.specs.Entry as gift;
 ghost use Rattle.hyena.specs.Entry as hyena;
@@ -219,10 +218,10 @@ pub extern "C" fn vespruldo_key_find(this_term: &[u8], last_term: &[u8], class: 
 }
 
 #[no_mangle]
-pub extern "C" fn vespruldo_same(a: &[u8], b: &[u8]) -> u32
-    ensures { λ r. ⌜ r ≡ cond (same (now (a .entry)) (now (b .entry))) 1 0 ⌝ }
+pub extern "C" fn vespruldo_same(a: &[u8], b: &[u8]) -> bool
+    ensures { λ r. ⌜ r ≡ same (now (a .entry)) (now (b .entry)) ⌝ }
 {
-    if words::same(a, b) { 1 } else { 0 }
+    words::same(a, b)
 }
 
 // The version 0.2.0, as 10000 times the first number, 100 times the second and the third.
