@@ -1,28 +1,42 @@
 /* Vespruldo: sealing for talking card readers.
 
-   Link with libvespruldo.a, which needs nothing but memcpy and memset.
+   Link with libvespruldo.a. It is x86-64 code with System V calls, for Linux
+   and the like, not for Windows or x32; any x86-64 processor will do. It is
+   position-independent and takes nothing but memcpy and memset, from any C
+   library (tried with glibc).
 
    Buffers. A buffer is a pointer and a length: how many bytes there are at that
    place. A length that a function does not allow is refused, whatever it is. If
    the length is 0, the pointer is not followed and may be NULL. Two buffers of
    one call must not overlap if either is written (the pointers without
-   `const`).
+   `const`). Where text and ciphertext are to be one buffer, the functions that
+   end in _in_place seal and open it.
 
    Threads. No function keeps a pointer, holds memory of its own between calls
    or takes any from a heap. Calls may run at the same time as long as none
    writes to a buffer that another was lent.
 
    Numbers. The answer is VESPRULDO_DONE or the number of the refusal; if
-   several apply, the smallest. A refusal changes no buffer, with one exception:
-   WRONG_TAG (see vespruldo_open). Comments leave out the prefix VESPRULDO_.
+   several apply, the first that the function's comment names. A refusal changes
+   no buffer, with one exception: WRONG_TAG (see the functions that open).
+   Comments leave out the prefix VESPRULDO_.
 
    What each function answers and what its buffers then hold is proved for all
    inputs. docs/READING.md says what is believed and what is only tested,
-   docs/SECURITY.md what is known about timing and about secrets left behind. */
+   docs/SECURITY.md what is known about timing and about secrets left behind.
+   Installed, these pages are in share/doc/vespruldo. */
 
 #ifndef VESPRULDO_H
 #define VESPRULDO_H
 
+#if !defined(__x86_64__) || defined(__ILP32__)
+#error "libvespruldo.a is x86-64 code, and this compiler makes other code"
+#endif
+#if defined(_WIN32) || defined(__CYGWIN__)
+#error "libvespruldo.a has System V calls, and Windows has others"
+#endif
+
+#include <stdbool.h>
 #include <stddef.h>
 #include <stdint.h>
 
@@ -30,11 +44,19 @@
 extern "C" {
 #endif
 
+/* The version of this header: 10000 * major + 100 * minor + patch, and as a
+   text. vespruldo_version answers the archive's. */
+#define VESPRULDO_VERSION 200
+#define VESPRULDO_VERSION_TEXT "0.2.0"
+
 /* Lengths in bytes: _BYTES is the only one allowed, _MIN and _MAX are the least
-   and the greatest. */
+   and the greatest, _EXTRA is what a card has besides its ciphertext. */
 #define VESPRULDO_KEY_BYTES 16 /* for sealing, opening and GIFT-128 */
 #define VESPRULDO_NONCE_BYTES 12
 #define VESPRULDO_TAG_BYTES 16
+#define VESPRULDO_CARD_EXTRA 30
+#define VESPRULDO_CARD_TEXT_MAX 65535
+#define VESPRULDO_DRAWER_BYTES 44    /* a drawer that is stored */
 #define VESPRULDO_DATA_MAX 65536     /* associated data */
 #define VESPRULDO_TEXT_MAX 1048576   /* HyENA, ChaCha20, BLAKE2b; ciphertext */
 #define VESPRULDO_GIFT_BLOCK_BYTES 16
@@ -50,44 +72,173 @@ extern "C" {
 
 /* Answers. */
 #define VESPRULDO_DONE 0
-#define VESPRULDO_KEY_LENGTH 1       /* key has a wrong length */
-#define VESPRULDO_NONCE_LENGTH 2     /* nonce or iv has a wrong length */
-#define VESPRULDO_DATA_LENGTH 3      /* associated data too long */
-#define VESPRULDO_TEXT_LENGTH 4      /* text or block length not allowed */
-#define VESPRULDO_TAG_LENGTH 5       /* tag, or room for it, not 16 bytes */
-#define VESPRULDO_ROOM_LENGTH 6      /* room too short (digest: not 1 to 64) */
-#define VESPRULDO_WRONG_TAG 7        /* opening: tag is not the recomputed one */
-#define VESPRULDO_STREAM_TOO_LONG 8  /* key stream: start counter plus blocks needed exceeds 2^32 */
-#define VESPRULDO_DRAWER_SPENT 9     /* drawer spent */
-#define VESPRULDO_BOOK_FORM 10       /* either key book badly formed */
-#define VESPRULDO_CLASS_MISSING 11   /* neither book has an entry for the class */
+#define VESPRULDO_KEY_LENGTH 1
+#define VESPRULDO_NONCE_LENGTH 2
+#define VESPRULDO_DATA_LENGTH 3
+#define VESPRULDO_TEXT_LENGTH 4
+#define VESPRULDO_TAG_LENGTH 5
+#define VESPRULDO_ROOM_LENGTH 6
+#define VESPRULDO_WRONG_TAG 7
+#define VESPRULDO_STREAM_TOO_LONG 8
+#define VESPRULDO_DRAWER_SPENT 9
+#define VESPRULDO_BOOK_FORM 10
+#define VESPRULDO_CLASS_MISSING 11
+#define VESPRULDO_CUT_SHORT 12
+#define VESPRULDO_LEFT_OVER 15
+#define VESPRULDO_DRAWER_DAMAGED 106
 
-/* The answer says whether anything was done: compilers that know this attribute
-   warn if it is ignored. */
+/* What an answer means, in words; never NULL. */
+static inline const char *vespruldo_words(uint32_t number)
+{
+    switch (number) {
+    case VESPRULDO_DONE:
+        return "done";
+    case VESPRULDO_KEY_LENGTH:
+        return "key has a wrong length";
+    case VESPRULDO_NONCE_LENGTH:
+        return "nonce or iv has a wrong length";
+    case VESPRULDO_DATA_LENGTH:
+        return "associated data too long";
+    case VESPRULDO_TEXT_LENGTH:
+        return "text or block length not allowed";
+    case VESPRULDO_TAG_LENGTH:
+        return "tag, or room for it, not 16 bytes";
+    case VESPRULDO_ROOM_LENGTH:
+        return "room too short (digest: not 1 to 64)";
+    case VESPRULDO_WRONG_TAG:
+        return "opening: tag is not the recomputed one";
+    case VESPRULDO_STREAM_TOO_LONG:
+        return "key stream: start counter plus blocks needed exceeds 2^32";
+    case VESPRULDO_DRAWER_SPENT:
+        return "drawer spent";
+    case VESPRULDO_BOOK_FORM:
+        return "either key book badly formed";
+    case VESPRULDO_CLASS_MISSING:
+        return "neither book has an entry for the class";
+    case VESPRULDO_CUT_SHORT:
+        return "cut short";
+    case VESPRULDO_LEFT_OVER:
+        return "bytes left over";
+    case VESPRULDO_DRAWER_DAMAGED:
+        return "drawer file damaged";
+    default:
+        return "not the number of a refusal";
+    }
+}
+
+/* What compilers that can warn are told of a function. LOOK_AT_ANSWER: the
+   answer says whether anything was done, and must not be ignored. RESTRICT: no
+   other buffer of the call may overlap this one, which is written. READS,
+   WRITES and CHANGES: parameter p points to as many bytes as parameter n says,
+   which are read, written, or both. KEPT: not left out, though nobody uses
+   it. */
 #if defined(__GNUC__)
 #define VESPRULDO_LOOK_AT_ANSWER __attribute__((warn_unused_result))
 #else
 #define VESPRULDO_LOOK_AT_ANSWER
 #endif
 
+#if defined(__GNUC__)
+#define VESPRULDO_RESTRICT __restrict
+#elif defined(__STDC_VERSION__) && __STDC_VERSION__ >= 199901L
+#define VESPRULDO_RESTRICT restrict
+#else
+#define VESPRULDO_RESTRICT
+#endif
+
+#if defined(__has_attribute)
+#if __has_attribute(access)
+#define VESPRULDO_READS(p, n) __attribute__((access(read_only, p, n)))
+#define VESPRULDO_WRITES(p, n) __attribute__((access(write_only, p, n)))
+#define VESPRULDO_CHANGES(p, n) __attribute__((access(read_write, p, n)))
+#endif
+#if __has_attribute(retain)
+#define VESPRULDO_KEPT __attribute__((used, retain))
+#endif
+#endif
+#if !defined(VESPRULDO_READS)
+#define VESPRULDO_READS(p, n)
+#define VESPRULDO_WRITES(p, n)
+#define VESPRULDO_CHANGES(p, n)
+#endif
+#if !defined(VESPRULDO_KEPT)
+#define VESPRULDO_KEPT __attribute__((used))
+#endif
+
+/* ---- Version ---- */
+
+/* The archive's version, as VESPRULDO_VERSION is this header's. */
+uint32_t vespruldo_version(void);
+
+/* Whatever includes this header asks for this function (with GCC and Clang). In
+   an archive with other calls or structs its name has another number, so that
+   the two do not link; otherwise they would, and would fail when run. */
+#define VESPRULDO_INTERFACE 1
+uint32_t vespruldo_interface_1(void);
+
+#if defined(__GNUC__)
+VESPRULDO_KEPT
+static uint32_t (*const vespruldo_asks_for)(void) = vespruldo_interface_1;
+#endif
+
 /* ---- Cards: HyENA over GIFT-128 ---- */
 
-/* Seals `text`: writes the ciphertext, as many bytes as the text has, to `room`
-   and the tag to `tag`. The rest of longer room keeps its bytes. `data` is the
-   associated data: it is not hidden, and opening must be given the same.
+/* A card is what is handed on: the nonce in 12 bytes, the length of the text in
+   2 (little-endian), the ciphertext, which is as long as the text, and the tag
+   in 16. So the text of a card has at most 65,535 bytes, and the card 30 more.
+   The office's tool `cards` makes and opens the same cards. */
+
+/* Seals `text` as a card, which it writes to `room`. The rest of longer room
+   keeps its bytes. `data` is the associated data: it is neither hidden nor in
+   the card, and opening must be given the same.
 
    Never seal two texts under one key and nonce: take each nonce from a drawer.
+
+   Refusals: KEY_LENGTH (key not 16 bytes), NONCE_LENGTH (nonce not 12),
+   DATA_LENGTH (over 65,536), TEXT_LENGTH (over 65,535), ROOM_LENGTH (room
+   shorter than the text and 30 bytes). */
+VESPRULDO_LOOK_AT_ANSWER
+VESPRULDO_READS(1, 2) VESPRULDO_READS(3, 4) VESPRULDO_READS(5, 6)
+VESPRULDO_READS(7, 8) VESPRULDO_WRITES(9, 10)
+uint32_t vespruldo_card_seal(const uint8_t *key, size_t key_len,
+                             const uint8_t *nonce, size_t nonce_len,
+                             const uint8_t *data, size_t data_len,
+                             const uint8_t *text, size_t text_len,
+                             uint8_t *VESPRULDO_RESTRICT room, size_t room_len);
+
+/* Opens a card: writes the text to `room`. It has `card_len` - 30 bytes, and
+   room for so many is always enough. The rest of longer room keeps its bytes.
+
+   Refusals: KEY_LENGTH (key not 16 bytes), DATA_LENGTH (over 65,536), CUT_SHORT
+   (the card has fewer bytes than the length in it and 30), LEFT_OVER (it has
+   more), ROOM_LENGTH (room shorter than the text), WRONG_TAG (key, data or card
+   is not what it was at sealing). After WRONG_TAG the first bytes of the room,
+   as many as the text has, are each 0; the rest is unchanged. */
+VESPRULDO_LOOK_AT_ANSWER
+VESPRULDO_READS(1, 2) VESPRULDO_READS(3, 4) VESPRULDO_READS(5, 6)
+VESPRULDO_WRITES(7, 8)
+uint32_t vespruldo_card_open(const uint8_t *key, size_t key_len,
+                             const uint8_t *data, size_t data_len,
+                             const uint8_t *card, size_t card_len,
+                             uint8_t *VESPRULDO_RESTRICT room, size_t room_len);
+
+/* Seals `text` without making a card of it, for another layout or a longer
+   text: writes the ciphertext, as many bytes as the text has, to `room` and the
+   tag to `tag`. The rest of longer room keeps its bytes. Data and nonce are as
+   for vespruldo_card_seal.
 
    Refusals: KEY_LENGTH (key not 16 bytes), NONCE_LENGTH (nonce not 12),
    DATA_LENGTH (over 65,536), TEXT_LENGTH (over 1,048,576), TAG_LENGTH (tag not
    16), ROOM_LENGTH (room shorter than the text). */
 VESPRULDO_LOOK_AT_ANSWER
+VESPRULDO_READS(1, 2) VESPRULDO_READS(3, 4) VESPRULDO_READS(5, 6)
+VESPRULDO_READS(7, 8) VESPRULDO_WRITES(9, 10) VESPRULDO_WRITES(11, 12)
 uint32_t vespruldo_seal(const uint8_t *key, size_t key_len,
                         const uint8_t *nonce, size_t nonce_len,
                         const uint8_t *data, size_t data_len,
                         const uint8_t *text, size_t text_len,
-                        uint8_t *room, size_t room_len,
-                        uint8_t *tag, size_t tag_len);
+                        uint8_t *VESPRULDO_RESTRICT room, size_t room_len,
+                        uint8_t *VESPRULDO_RESTRICT tag, size_t tag_len);
 
 /* Opens what was sealed: writes the text, as many bytes as `ciphertext` has, to
    `room`. The rest of longer room keeps its bytes.
@@ -97,43 +248,83 @@ uint32_t vespruldo_seal(const uint8_t *key, size_t key_len,
    sealing). After WRONG_TAG the first bytes of the room, as many as the
    ciphertext has, are each 0; the rest is unchanged. */
 VESPRULDO_LOOK_AT_ANSWER
+VESPRULDO_READS(1, 2) VESPRULDO_READS(3, 4) VESPRULDO_READS(5, 6)
+VESPRULDO_READS(7, 8) VESPRULDO_READS(9, 10) VESPRULDO_WRITES(11, 12)
 uint32_t vespruldo_open(const uint8_t *key, size_t key_len,
                         const uint8_t *nonce, size_t nonce_len,
                         const uint8_t *data, size_t data_len,
                         const uint8_t *ciphertext, size_t ciphertext_len,
                         const uint8_t *tag, size_t tag_len,
-                        uint8_t *room, size_t room_len);
+                        uint8_t *VESPRULDO_RESTRICT room, size_t room_len);
 
 /* Seals without associated data: vespruldo_seal with `data` empty. Short is the
    form of the call, not the text.
 
    Refusals: as for vespruldo_seal, but never DATA_LENGTH. */
 VESPRULDO_LOOK_AT_ANSWER
+VESPRULDO_READS(1, 2) VESPRULDO_READS(3, 4) VESPRULDO_READS(5, 6)
+VESPRULDO_WRITES(7, 8) VESPRULDO_WRITES(9, 10)
 uint32_t vespruldo_seal_short(const uint8_t *key, size_t key_len,
                               const uint8_t *nonce, size_t nonce_len,
                               const uint8_t *text, size_t text_len,
-                              uint8_t *room, size_t room_len,
-                              uint8_t *tag, size_t tag_len);
+                              uint8_t *VESPRULDO_RESTRICT room, size_t room_len,
+                              uint8_t *VESPRULDO_RESTRICT tag, size_t tag_len);
 
 /* Opens what was sealed without associated data: vespruldo_open with `data`
    empty.
 
    Refusals: as for vespruldo_open, but never DATA_LENGTH. */
 VESPRULDO_LOOK_AT_ANSWER
+VESPRULDO_READS(1, 2) VESPRULDO_READS(3, 4) VESPRULDO_READS(5, 6)
+VESPRULDO_READS(7, 8) VESPRULDO_WRITES(9, 10)
 uint32_t vespruldo_open_short(const uint8_t *key, size_t key_len,
                               const uint8_t *nonce, size_t nonce_len,
                               const uint8_t *ciphertext, size_t ciphertext_len,
                               const uint8_t *tag, size_t tag_len,
-                              uint8_t *room, size_t room_len);
+                              uint8_t *VESPRULDO_RESTRICT room,
+                              size_t room_len);
+
+/* Seals in place: vespruldo_seal where text and room are one buffer, which then
+   holds the ciphertext.
+
+   Refusals: as for vespruldo_seal, but never ROOM_LENGTH. */
+VESPRULDO_LOOK_AT_ANSWER
+VESPRULDO_READS(1, 2) VESPRULDO_READS(3, 4) VESPRULDO_READS(5, 6)
+VESPRULDO_CHANGES(7, 8) VESPRULDO_WRITES(9, 10)
+uint32_t vespruldo_seal_in_place(const uint8_t *key, size_t key_len,
+                                 const uint8_t *nonce, size_t nonce_len,
+                                 const uint8_t *data, size_t data_len,
+                                 uint8_t *VESPRULDO_RESTRICT buffer,
+                                 size_t buffer_len,
+                                 uint8_t *VESPRULDO_RESTRICT tag,
+                                 size_t tag_len);
+
+/* Opens in place: vespruldo_open where ciphertext and room are one buffer,
+   which then holds the text.
+
+   Refusals: as for vespruldo_open, but never ROOM_LENGTH. After WRONG_TAG the
+   whole buffer is 0: the ciphertext is gone, and cannot be tried again. */
+VESPRULDO_LOOK_AT_ANSWER
+VESPRULDO_READS(1, 2) VESPRULDO_READS(3, 4) VESPRULDO_READS(5, 6)
+VESPRULDO_CHANGES(7, 8) VESPRULDO_READS(9, 10)
+uint32_t vespruldo_open_in_place(const uint8_t *key, size_t key_len,
+                                 const uint8_t *nonce, size_t nonce_len,
+                                 const uint8_t *data, size_t data_len,
+                                 uint8_t *VESPRULDO_RESTRICT buffer,
+                                 size_t buffer_len,
+                                 const uint8_t *tag, size_t tag_len);
 
 /* ---- Nonces and ivs ---- */
 
 /* A drawer: a reader number and a count. Its draws never repeat as long as each
-   is taken from the drawer that the last one handed back. Keep the drawer, or
-   its two numbers, where a restart finds them, and store the next count there
-   before the number that was drawn is used: a drawer started again from an
-   older count hands out the same numbers again. Two readers that share a key
-   need different reader numbers. */
+   is taken from the drawer that the last one handed back. So keep the drawer
+   where a restart finds it: after each draw store `next`, and do not use what
+   was drawn before that is done. A drawer started again from an older count
+   hands out the same numbers again. Two readers that share a key need different
+   reader numbers.
+
+   What is stored is what vespruldo_drawer_store answers, never the bytes of
+   this struct: it has padding, which holds whatever was in memory. */
 typedef struct vespruldo_drawer {
     uint32_t reader;
     uint64_t count;
@@ -153,6 +344,17 @@ typedef struct vespruldo_drawn_iv {
     vespruldo_drawer next;
 } vespruldo_drawn_iv;
 
+/* A drawer as it is stored. */
+typedef struct vespruldo_stored {
+    uint8_t bytes[VESPRULDO_DRAWER_BYTES];
+} vespruldo_stored;
+
+/* A drawer that was stored. */
+typedef struct vespruldo_loaded {
+    uint32_t number; /* DONE or DRAWER_DAMAGED */
+    vespruldo_drawer drawer;
+} vespruldo_loaded;
+
 /* The drawer with this reader number and this count. */
 vespruldo_drawer vespruldo_drawer_start(uint32_t reader, uint64_t count);
 
@@ -170,6 +372,20 @@ vespruldo_drawn vespruldo_drawer_draw(vespruldo_drawer drawer);
 VESPRULDO_LOOK_AT_ANSWER
 vespruldo_drawn_iv vespruldo_drawer_iv(vespruldo_drawer drawer);
 
+/* The bytes to store a drawer by: the reader number in 4, the count in 8, both
+   little-endian, and the BLAKE2b digest of these 12 in 32, without a key. They
+   are the drawer file of the office's tool `cards`. */
+vespruldo_stored vespruldo_drawer_store(vespruldo_drawer drawer);
+
+/* The drawer that was stored in these bytes.
+
+   Refusal: DRAWER_DAMAGED (not, to the last byte, what vespruldo_drawer_store
+   answers for a drawer). The drawer is then reader 0 with the count 2^64 - 1,
+   which is spent. */
+VESPRULDO_LOOK_AT_ANSWER
+VESPRULDO_READS(1, 2)
+vespruldo_loaded vespruldo_drawer_load(const uint8_t *bytes, size_t bytes_len);
+
 /* ---- Key books ---- */
 
 /* Where the 16 bytes of a key begin: at `offset` in the book that is named. */
@@ -184,17 +400,35 @@ typedef struct vespruldo_found {
 
 /* Looks up the key of a class in this term's book and, if that has none, in
    last term's. A key book is a count of two bytes, then for each entry a class
-   number of two bytes and a key of 16; numbers are little-endian. The books are
-   only read, and may overlap or be the same.
+   number of two bytes and a key of 16; numbers are little-endian. Where there
+   is no book, lend vespruldo_no_book: a book of length 0 is BOOK_FORM. The
+   books are only read, and may overlap or be the same.
 
    Refusals: BOOK_FORM (either book is not 2 + 18 * count bytes long, or its
    class numbers do not strictly rise; both are judged whole before either is
    searched), CLASS_MISSING (neither has an entry for the class). `book` and
    `offset` are then 0, and there is no key. */
 VESPRULDO_LOOK_AT_ANSWER
+VESPRULDO_READS(1, 2) VESPRULDO_READS(3, 4)
 vespruldo_found vespruldo_key_find(const uint8_t *this_term, size_t this_term_len,
                                    const uint8_t *last_term, size_t last_term_len,
                                    uint16_t class_number);
+
+/* A book without entries. */
+static const uint8_t vespruldo_no_book[2] = {0, 0};
+
+/* The 16 bytes of the key that was found in these books, or NULL where the
+   lookup was refused. */
+static inline const uint8_t *vespruldo_found_key(vespruldo_found found,
+                                                 const uint8_t *this_term,
+                                                 const uint8_t *last_term)
+{
+    if (found.number != VESPRULDO_DONE) {
+        return NULL;
+    }
+    return (found.book == VESPRULDO_THIS_TERM ? this_term : last_term) +
+           found.offset;
+}
 
 /* ---- Wide blocks: LIONESS over BLAKE2b and ChaCha20 ---- */
 
@@ -204,18 +438,22 @@ vespruldo_found vespruldo_key_find(const uint8_t *this_term, size_t this_term_le
    Refusals: KEY_LENGTH (key not 128 bytes), NONCE_LENGTH (iv not 48),
    TEXT_LENGTH (block not 33 to 1,048,608). */
 VESPRULDO_LOOK_AT_ANSWER
+VESPRULDO_READS(1, 2) VESPRULDO_READS(3, 4) VESPRULDO_CHANGES(5, 6)
 uint32_t vespruldo_lioness_encipher(const uint8_t *key, size_t key_len,
                                     const uint8_t *iv, size_t iv_len,
-                                    uint8_t *block, size_t block_len);
+                                    uint8_t *VESPRULDO_RESTRICT block,
+                                    size_t block_len);
 
 /* Deciphers a block in place. It has no tag: under a wrong key or iv, or if it
    was changed, the whole block comes out as noise, and the answer is DONE.
 
    Refusals: as for vespruldo_lioness_encipher. */
 VESPRULDO_LOOK_AT_ANSWER
+VESPRULDO_READS(1, 2) VESPRULDO_READS(3, 4) VESPRULDO_CHANGES(5, 6)
 uint32_t vespruldo_lioness_decipher(const uint8_t *key, size_t key_len,
                                     const uint8_t *iv, size_t iv_len,
-                                    uint8_t *block, size_t block_len);
+                                    uint8_t *VESPRULDO_RESTRICT block,
+                                    size_t block_len);
 
 /* ---- What these are made of ---- */
 
@@ -224,13 +462,17 @@ uint32_t vespruldo_lioness_decipher(const uint8_t *key, size_t key_len,
 
    Refusals: KEY_LENGTH (key not 16 bytes), TEXT_LENGTH (block not 16). */
 VESPRULDO_LOOK_AT_ANSWER
+VESPRULDO_READS(1, 2) VESPRULDO_CHANGES(3, 4)
 uint32_t vespruldo_gift_encipher(const uint8_t *key, size_t key_len,
-                                 uint8_t *block, size_t block_len);
+                                 uint8_t *VESPRULDO_RESTRICT block,
+                                 size_t block_len);
 
 /* Undoes vespruldo_gift_encipher. Refusals: as for vespruldo_gift_encipher. */
 VESPRULDO_LOOK_AT_ANSWER
+VESPRULDO_READS(1, 2) VESPRULDO_CHANGES(3, 4)
 uint32_t vespruldo_gift_decipher(const uint8_t *key, size_t key_len,
-                                 uint8_t *block, size_t block_len);
+                                 uint8_t *VESPRULDO_RESTRICT block,
+                                 size_t block_len);
 
 /* Adds ChaCha20's key stream to a text in place, by exclusive or; done twice,
    it gives the text back. `start` is the counter of the stream's first block of
@@ -240,9 +482,11 @@ uint32_t vespruldo_gift_decipher(const uint8_t *key, size_t key_len,
    TEXT_LENGTH (over 1,048,576), STREAM_TOO_LONG (start plus the blocks needed
    exceeds 2^32). */
 VESPRULDO_LOOK_AT_ANSWER
+VESPRULDO_READS(1, 2) VESPRULDO_READS(3, 4) VESPRULDO_CHANGES(6, 7)
 uint32_t vespruldo_chacha20(const uint8_t *key, size_t key_len,
                             const uint8_t *nonce, size_t nonce_len,
-                            uint32_t start, uint8_t *text, size_t text_len);
+                            uint32_t start,
+                            uint8_t *VESPRULDO_RESTRICT text, size_t text_len);
 
 /* Writes the BLAKE2b digest of `text` under `key` to `digest` and fills it: the
    digest has the length of its room, and a shorter one is not the beginning of
@@ -251,9 +495,20 @@ uint32_t vespruldo_chacha20(const uint8_t *key, size_t key_len,
    Refusals: KEY_LENGTH (key over 64 bytes), TEXT_LENGTH (over 1,048,576),
    ROOM_LENGTH (digest not 1 to 64). */
 VESPRULDO_LOOK_AT_ANSWER
+VESPRULDO_READS(1, 2) VESPRULDO_READS(3, 4) VESPRULDO_WRITES(5, 6)
 uint32_t vespruldo_blake2b(const uint8_t *key, size_t key_len,
                            const uint8_t *text, size_t text_len,
-                           uint8_t *digest, size_t digest_len);
+                           uint8_t *VESPRULDO_RESTRICT digest,
+                           size_t digest_len);
+
+/* Whether both buffers have the same length and the same bytes: true is the
+   same, unlike memcmp's 0. The time depends on the lengths alone: digests under
+   a key are compared by this, never by memcmp. The buffers are only read, and
+   may overlap. */
+VESPRULDO_LOOK_AT_ANSWER
+VESPRULDO_READS(1, 2) VESPRULDO_READS(3, 4)
+bool vespruldo_same(const uint8_t *a, size_t a_len,
+                    const uint8_t *b, size_t b_len);
 
 #ifdef __cplusplus
 }

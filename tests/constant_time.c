@@ -3,11 +3,11 @@
    error for each conditional jump and each address that depends on one.
 
    Marked are the bytes of every buffer that is lent, the start counter of a key
-   stream, and drawers. Not marked are lengths, and of key books the counts and
-   class numbers, which say where to look; the keys beside them are. Every
-   function of the archive is called, done and refused. Nothing may then depend
-   on a marked bit but the exceptions that are named here, each in one place of
-   one call; docs/SECURITY.md explains them. */
+   stream, and drawers. Not marked are lengths, that in a card too, and of key
+   books the counts and class numbers, which say where to look; the keys beside
+   them are. Every function of the archive is called, done and refused. Nothing
+   may then depend on a marked bit but the exceptions that are named here, each
+   in one place of one call; docs/SECURITY.md explains them. */
 
 #include <stdbool.h>
 #include <stdio.h>
@@ -29,6 +29,8 @@ static const struct exception none = {"nothing", 0};
 static const struct exception verdict = {"the verdict of a tag (7)", 1};
 static const struct exception ending = {"where a key stream would end (8)", 1};
 static const struct exception spent = {"whether a drawer is spent (9)", 1};
+static const struct exception damage = {"whether a drawer is damaged (106)", 1};
+static const struct exception equal = {"whether two buffers are the same", 1};
 
 static unsigned long calls;
 static bool failed;
@@ -41,7 +43,8 @@ static void begin(void)
 
 /* Ends a call that answered `number`. A number that itself depends on marked
    bits is one place with the jump that made it, and a place where there was no
-   such jump. */
+   such jump. A comparison has nothing but its answer: where that depends on
+   them, there is no such jump. */
 static void end(const char *function, uint32_t number, uint32_t wanted,
                 const struct exception *allowed)
 {
@@ -49,8 +52,8 @@ static void end(const char *function, uint32_t number, uint32_t wanted,
     uint32_t marks = 0;
     (void)VALGRIND_GET_VBITS(&number, &marks, sizeof number);
     VALGRIND_MAKE_MEM_DEFINED(&number, sizeof number);
-    if (places == 0 && marks != 0) {
-        places = 1;
+    if (marks != 0 && (places == 0 || allowed == &equal)) {
+        places++;
     }
     if (number != wanted || places != allowed->places) {
         printf("%s answered %u where %u is right; %lu places depend on marked "
@@ -89,18 +92,52 @@ static uint8_t key[LONGEST], nonce[LONGEST], data[LONGEST], text[LONGEST];
 static uint8_t ciphertext[LONGEST], tag[LONGEST], room[LONGEST];
 static uint32_t start;
 
+/* A card begins with the nonce and the text's length. */
+static uint8_t card[LONGEST];
+static uint8_t *const length_in_card = card + VESPRULDO_NONCE_BYTES;
+#define LENGTH_BYTES 2
+#define CARD_START (VESPRULDO_NONCE_BYTES + LENGTH_BYTES)
+
+/* Where a card is opened, it is the text, and has its length. */
 struct lengths {
     size_t key, nonce, data, text, tag, room;
 };
 
-/* What a function writes is in `output`, as many bytes as its room or, where it
-   works in one buffer, as its text has. What seals writes a tag too. */
 struct function {
     const char *name;
     uint32_t (*call)(struct lengths n);
     const struct exception *when_done;
+    /* What it writes that depends on the key: as many bytes as its room or,
+       where it works in one buffer, as its text has; and a tag. */
     uint8_t *output;
+    bool in_place, tags;
+    /* Makes what it opens, where opening spoils that. */
+    uint32_t (*before)(struct lengths n);
 };
+
+static uint32_t card_seal(struct lengths n)
+{
+    return vespruldo_card_seal(key, n.key, nonce, n.nonce, data, n.data, text,
+                               n.text, card, n.room);
+}
+
+static uint32_t card_open(struct lengths n)
+{
+    return vespruldo_card_open(key, n.key, data, n.data, card, n.text, room,
+                               n.room);
+}
+
+static uint32_t seal_in_place(struct lengths n)
+{
+    return vespruldo_seal_in_place(key, n.key, nonce, n.nonce, data, n.data,
+                                   text, n.text, tag, n.tag);
+}
+
+static uint32_t open_in_place(struct lengths n)
+{
+    return vespruldo_open_in_place(key, n.key, nonce, n.nonce, data, n.data,
+                                   text, n.text, tag, n.tag);
+}
 
 static uint32_t seal(struct lengths n)
 {
@@ -156,22 +193,29 @@ static uint32_t lioness_decipher(struct lengths n)
     return vespruldo_lioness_decipher(key, n.key, nonce, n.nonce, text, n.text);
 }
 
+#define FUNCTION(name, exception, ...) \
+    f_##name = {"vespruldo_" #name, name, &exception, __VA_ARGS__}
+#define TO_ROOM(output) output, false, false, NULL
+#define IN_PLACE text, true, false, NULL
+
 static const struct function
-    f_seal = {"vespruldo_seal", seal, &none, ciphertext},
-    f_open = {"vespruldo_open", open_sealed, &verdict, room},
-    f_seal_short = {"vespruldo_seal_short", seal_short, &none, ciphertext},
-    f_open_short = {"vespruldo_open_short", open_short, &verdict, room},
-    f_gift_encipher = {"vespruldo_gift_encipher", gift_encipher, &none, text},
-    f_gift_decipher = {"vespruldo_gift_decipher", gift_decipher, &none, text},
-    f_chacha20 = {"vespruldo_chacha20", chacha20, &ending, text},
-    f_blake2b = {"vespruldo_blake2b", blake2b, &none, room},
-    f_lioness_encipher = {"vespruldo_lioness_encipher", lioness_encipher, &none,
-                          text},
-    f_lioness_decipher = {"vespruldo_lioness_decipher", lioness_decipher, &none,
-                          text};
+    FUNCTION(card_seal, none, TO_ROOM(card)),
+    FUNCTION(card_open, verdict, TO_ROOM(room)),
+    FUNCTION(seal, none, ciphertext, false, true, NULL),
+    f_open = {"vespruldo_open", open_sealed, &verdict, TO_ROOM(room)},
+    FUNCTION(seal_short, none, ciphertext, false, true, NULL),
+    FUNCTION(open_short, verdict, TO_ROOM(room)),
+    FUNCTION(seal_in_place, none, text, true, true, NULL),
+    FUNCTION(open_in_place, verdict, text, true, false, seal_in_place),
+    FUNCTION(gift_encipher, none, IN_PLACE),
+    FUNCTION(gift_decipher, none, IN_PLACE),
+    FUNCTION(chacha20, ending, IN_PLACE),
+    FUNCTION(blake2b, none, TO_ROOM(room)),
+    FUNCTION(lioness_encipher, none, IN_PLACE),
+    FUNCTION(lioness_decipher, none, IN_PLACE);
 
 static uint8_t *const buffers[] = {key,        nonce, data, text,
-                                   ciphertext, tag,   room};
+                                   ciphertext, tag,   room, card};
 
 static void mark_all(void)
 {
@@ -179,6 +223,7 @@ static void mark_all(void)
         mark(buffers[i], LONGEST);
     }
     mark(&start, sizeof start);
+    VALGRIND_MAKE_MEM_DEFINED(length_in_card, LENGTH_BYTES);
 }
 
 static void mark_only(uint8_t *buffer)
@@ -198,36 +243,74 @@ static void check(const struct function *f, struct lengths n, uint32_t wanted,
     end(f->name, f->call(n), wanted, allowed);
 }
 
+static void prepare(const struct function *f, struct lengths n)
+{
+    if (f->before != NULL) {
+        (void)f->before(n);
+    }
+}
+
+/* All that was written must be marked, but for what stands in a card before its
+   ciphertext, which depends on no key. */
+static void all_must_be_marked(const struct function *f, struct lengths n)
+{
+    size_t from = f->output == card ? CARD_START : 0;
+    must_be_marked(f->name, f->output + from,
+                   (f->in_place ? n.text : n.room) - from);
+    if (f->tags) {
+        must_be_marked(f->name, tag, n.tag);
+    }
+}
+
 /* With the key alone marked, or the text where there is no key, all that is
    written must be marked: otherwise marks are lost on the way and the calls
    show nothing. A start counter that is not marked needs no exception. */
 static void check_arrival(const struct function *f, struct lengths n)
 {
+    prepare(f, n);
     mark_only(n.key > 0 ? key : text);
     begin();
     end(f->name, f->call(n), VESPRULDO_DONE,
         f->when_done == &ending ? &none : f->when_done);
-    must_be_marked(f->name, f->output, f->output == text ? n.text : n.room);
-    if (f->output == ciphertext) {
-        must_be_marked(f->name, tag, n.tag);
-    }
+    all_must_be_marked(f, n);
 }
 
 static void check_done(const struct function *f, struct lengths n)
 {
+    prepare(f, n);
     check(f, n, VESPRULDO_DONE, f->when_done);
     check_arrival(f, n);
 }
 
-/* Opened with a wrong bit in the tag's first byte, then in its last: neither
-   takes a jump more than the right tag. */
-static void check_wrong_tags(const struct function *f, struct lengths n)
+/* Opened with a wrong bit in the first byte of the tag that is here, then in
+   its last: neither takes a jump more than the right tag. */
+static void check_wrong_tags(const struct function *f, struct lengths n,
+                             uint8_t *here)
 {
     for (size_t j = 0; j < VESPRULDO_TAG_BYTES; j += VESPRULDO_TAG_BYTES - 1) {
-        tag[j] ^= 1;
+        prepare(f, n);
+        here[j] ^= 1;
         check(f, n, VESPRULDO_WRONG_TAG, &verdict);
-        tag[j] ^= 1;
+        here[j] ^= 1;
     }
+}
+
+static void check_whole_cards(size_t data_len, size_t len)
+{
+    size_t card_len = len + VESPRULDO_CARD_EXTRA;
+    struct lengths sealed = {.key = VESPRULDO_KEY_BYTES,
+                             .nonce = VESPRULDO_NONCE_BYTES,
+                             .data = data_len,
+                             .text = len,
+                             .room = card_len};
+    struct lengths opened = {.key = VESPRULDO_KEY_BYTES,
+                             .data = data_len,
+                             .text = card_len,
+                             .room = len};
+    check_done(&f_card_seal, sealed);
+    check_done(&f_card_open, opened);
+    check_wrong_tags(&f_card_open, opened,
+                     card + card_len - VESPRULDO_TAG_BYTES);
 }
 
 static void check_cards(size_t data_len, size_t len)
@@ -236,10 +319,14 @@ static void check_cards(size_t data_len, size_t len)
                         len, VESPRULDO_TAG_BYTES, len};
     check_done(&f_seal, n);
     check_done(&f_open, n);
-    check_wrong_tags(&f_open, n);
+    check_wrong_tags(&f_open, n, tag);
     check_done(&f_seal_short, n);
     check_done(&f_open_short, n);
-    check_wrong_tags(&f_open_short, n);
+    check_wrong_tags(&f_open_short, n, tag);
+    check_done(&f_seal_in_place, n);
+    check_done(&f_open_in_place, n);
+    check_wrong_tags(&f_open_in_place, n, tag);
+    check_whole_cards(data_len, len);
 }
 
 static void check_others(size_t len)
@@ -289,7 +376,7 @@ static void check_buffers(void)
 }
 
 /* Refused for a length: nothing marked is looked at. No byte is read or written
-   then, so the lengths given may be untrue. */
+   then but the length in a card, so the lengths given may be untrue. */
 static void check_refusals(void)
 {
     static const struct {
@@ -313,6 +400,25 @@ static void check_refusals(void)
         {&f_seal_short, {16, 12, 0, 20, 16, 19}, 6},
         {&f_open_short, {0, 12, 0, 20, 16, 20}, 1},
         {&f_open_short, {16, 12, 0, 20, 16, 19}, 6},
+        {&f_seal_in_place, {15, 12, 9, 20, 16, 0}, 1},
+        {&f_seal_in_place, {16, 13, 9, 20, 16, 0}, 2},
+        {&f_seal_in_place, {16, 12, 65537, 20, 16, 0}, 3},
+        {&f_seal_in_place, {16, 12, 9, 1048577, 16, 0}, 4},
+        {&f_seal_in_place, {16, 12, 9, 20, 15, 0}, 5},
+        {&f_open_in_place, {15, 12, 9, 20, 16, 0}, 1},
+        {&f_open_in_place, {16, 12, 9, 1048577, 16, 0}, 4},
+        {&f_open_in_place, {16, 12, 9, 20, 15, 0}, 5},
+        {&f_card_seal, {15, 12, 9, 20, 0, 50}, 1},
+        {&f_card_seal, {16, 13, 9, 20, 0, 50}, 2},
+        {&f_card_seal, {16, 12, 65537, 20, 0, 50}, 3},
+        {&f_card_seal, {16, 12, 9, 65536, 0, 65566}, 4},
+        {&f_card_seal, {16, 12, 9, 20, 0, 49}, 6},
+        {&f_card_open, {15, 0, 9, 50, 0, 20}, 1},
+        {&f_card_open, {16, 0, 65537, 50, 0, 20}, 3},
+        {&f_card_open, {16, 0, 9, 49, 0, 20}, 12},
+        {&f_card_open, {16, 0, 9, 13, 0, 20}, 12},
+        {&f_card_open, {16, 0, 9, 51, 0, 20}, 15},
+        {&f_card_open, {16, 0, 9, 50, 0, 19}, 6},
         {&f_gift_encipher, {.key = 17, .text = 16}, 1},
         {&f_gift_decipher, {.key = 16, .text = 17}, 4},
         {&f_chacha20, {.key = 31, .nonce = 12, .text = 20}, 1},
@@ -325,6 +431,8 @@ static void check_refusals(void)
         {&f_lioness_encipher, {.key = 128, .nonce = 47, .text = 64}, 2},
         {&f_lioness_decipher, {.key = 128, .nonce = 48, .text = 32}, 4},
     };
+    length_in_card[0] = 20;
+    length_in_card[1] = 0;
     for (size_t i = 0; i < COUNT(cases); i++) {
         check(cases[i].function, cases[i].n, cases[i].number, &none);
     }
@@ -333,7 +441,66 @@ static void check_refusals(void)
     check(&f_chacha20, two_blocks, VESPRULDO_STREAM_TOO_LONG, &ending);
 }
 
+/* ---- Comparing ---- */
+
+static void check_same(size_t len, size_t other_len, uint32_t wanted,
+                       const struct exception *allowed)
+{
+    mark_all();
+    begin();
+    end("vespruldo_same", vespruldo_same(text, len, room, other_len), wanted,
+        allowed);
+}
+
+/* The same bytes, and then other ones in the first place, in the last, and in
+   all: each takes the same jumps. */
+static void check_comparing(void)
+{
+    static const size_t lens[] = {1, 2, 15, 16, 17, 32, 64, 65, 257};
+    for (size_t i = 0; i < COUNT(lens); i++) {
+        size_t len = lens[i];
+        memcpy(room, text, LONGEST);
+        check_same(len, len, 1, &equal);
+        for (size_t j = 0; j < len; j += len > 1 ? len - 1 : 1) {
+            room[j] ^= 0x80;
+            check_same(len, len, 0, &equal);
+            room[j] ^= 0x80;
+        }
+        check_same(len, len - 1, 0, &none);
+        check_same(len, len + 1, 0, &none);
+    }
+    check_same(0, 0, 1, &none);
+}
+
 /* ---- Drawers and key books ---- */
+
+static void check_load(uint8_t *bytes, size_t len, uint32_t wanted,
+                       const struct exception *allowed)
+{
+    mark(bytes, VESPRULDO_DRAWER_BYTES);
+    begin();
+    end("vespruldo_drawer_load", vespruldo_drawer_load(bytes, len).number,
+        wanted, allowed);
+}
+
+/* Loaded as it was stored, and with a wrong bit in each of its parts. */
+static void check_stored(vespruldo_drawer drawer)
+{
+    begin();
+    vespruldo_stored stored = vespruldo_drawer_store(drawer);
+    end("vespruldo_drawer_store", VESPRULDO_DONE, VESPRULDO_DONE, &none);
+    must_be_marked("vespruldo_drawer_store", stored.bytes, sizeof stored.bytes);
+    static const size_t places[] = {0, 4, 12, 43};
+    check_load(stored.bytes, sizeof stored.bytes, VESPRULDO_DONE, &damage);
+    for (size_t i = 0; i < COUNT(places); i++) {
+        stored.bytes[places[i]] ^= 1;
+        check_load(stored.bytes, sizeof stored.bytes, VESPRULDO_DRAWER_DAMAGED,
+                   &damage);
+        stored.bytes[places[i]] ^= 1;
+    }
+    check_load(stored.bytes, sizeof stored.bytes - 1, VESPRULDO_DRAWER_DAMAGED,
+               &none);
+}
 
 static void check_draws(uint64_t count, uint32_t wanted)
 {
@@ -349,6 +516,7 @@ static void check_draws(uint64_t count, uint32_t wanted)
     begin();
     end("vespruldo_drawer_iv", vespruldo_drawer_iv(drawer).number, wanted,
         &spent);
+    check_stored(drawer);
 }
 
 #define ENTRIES 3
@@ -386,6 +554,17 @@ static void check_books(void)
     vespruldo_found found =
         vespruldo_key_find(this_term, BOOK, last_term, BOOK - 1, 1);
     end("vespruldo_key_find", found.number, VESPRULDO_BOOK_FORM, &none);
+}
+
+/* ---- What is given nothing ---- */
+
+static void check_version(void)
+{
+    begin();
+    end("vespruldo_version", vespruldo_version(), VESPRULDO_VERSION, &none);
+    begin();
+    end("vespruldo_interface_1", vespruldo_interface_1(), VESPRULDO_INTERFACE,
+        &none);
 }
 
 /* ---- That leaks are found ---- */
@@ -430,9 +609,11 @@ int main(void)
     calls = 0;
     check_buffers();
     check_refusals();
+    check_comparing();
     check_draws(5, VESPRULDO_DONE);
     check_draws(UINT64_MAX, VESPRULDO_DRAWER_SPENT);
     check_books();
+    check_version();
     printf("constant time: %lu calls%s\n", calls,
            failed ? ", not all as they should be" : "");
     return failed ? 1 : 0;

@@ -6,6 +6,16 @@
 #include "cases.h"
 
 #define ENTRY 18
+/* The bytes of a stored drawer that its digest is of. */
+#define DIGESTED 12
+
+static void write_drawn(uint8_t bytes[DIGESTED], vespruldo_drawer drawer)
+{
+    for (int j = 0; j < DIGESTED; j++) {
+        bytes[j] = (uint8_t)(j < 4 ? drawer.reader >> (8 * j)
+                                   : drawer.count >> (8 * (j - 4)));
+    }
+}
 
 /* A draw writes its 12 bytes once, an iv four times. */
 static vespruldo_drawn_iv draw(enum function_name name, vespruldo_drawer drawer)
@@ -27,10 +37,9 @@ static vespruldo_drawer check_draw(struct thread *thread,
     thread->running = &running;
     vespruldo_drawn_iv drawn = draw(name, drawer);
     bool spent = drawer.count == UINT64_MAX;
-    uint8_t bytes[12] = {0};
-    for (int j = 0; j < 12 && !spent; j++) {
-        bytes[j] = (uint8_t)(j < 4 ? drawer.reader >> (8 * j)
-                                   : drawer.count >> (8 * (j - 4)));
+    uint8_t bytes[DIGESTED] = {0};
+    if (!spent) {
+        write_drawn(bytes, drawer);
     }
     bool right = drawn.number == (spent ? 9 : 0) &&
                  drawn.next.reader == drawer.reader &&
@@ -48,8 +57,61 @@ static vespruldo_drawer check_draw(struct thread *thread,
     return drawn.next;
 }
 
+/* "reader number in 4 bytes, count in 8, both little-endian, then the digest of
+   these 12". */
+static vespruldo_stored check_store(struct thread *thread,
+                                    vespruldo_drawer drawer)
+{
+    const struct call running = {.function = &functions[DRAWER_STORE]};
+    uint8_t bytes[DIGESTED];
+    struct call digest = {.function = &functions[BLAKE2B]};
+    thread->running = &running;
+    vespruldo_stored stored = vespruldo_drawer_store(drawer);
+    write_drawn(bytes, drawer);
+    require(thread, memcmp(stored.bytes, bytes, DIGESTED) == 0,
+            "not the reader number and the count");
+    lend_random(thread, &digest, SECOND, KEY, 0);
+    lend_copy(thread, &digest, SECOND, TEXT, bytes, DIGESTED);
+    lend_random(thread, &digest, SECOND, ROOM, sizeof stored.bytes - DIGESTED);
+    make_call(thread, &digest);
+    thread->running = &running;
+    require(thread,
+            memcmp(stored.bytes + DIGESTED, digest.loans[ROOM].place,
+                   digest.loans[ROOM].len) == 0,
+            "not their digest");
+    count(thread, DRAWER_STORE, 0);
+    return stored;
+}
+
+/* Loads what was stored, or that with a flipped bit, or cut short, or with
+   bytes left over. */
+static void check_load(struct thread *thread, vespruldo_drawer drawer,
+                       vespruldo_stored stored)
+{
+    struct random *random = &thread->random;
+    struct call call = {.function = &functions[DRAWER_LOAD]};
+    size_t whole = sizeof stored.bytes;
+    size_t len = !one_in(random, 4) ? whole
+                 : one_in(random, 2) ? whole + random_below(random, 3) - 1
+                                     : random_below(random, 2 * whole);
+    bool flipped = len > 0 && one_in(random, 2);
+    lend_random(thread, &call, FIRST, STORED, len);
+    memcpy(call.loans[STORED].place, stored.bytes, len < whole ? len : whole);
+    if (flipped) {
+        random_flip(random, call.loans[STORED].place, len);
+    }
+    call.opens = len == whole && !flipped;
+    make_call(thread, &call);
+    const vespruldo_drawer spent = {0, UINT64_MAX};
+    vespruldo_drawer right = call.opens ? drawer : spent;
+    require(thread,
+            call.loaded.drawer.reader == right.reader &&
+                call.loaded.drawer.count == right.count,
+            "another drawer");
+}
+
 /* A few draws one after another, at times where the count ends or where a byte
-   of it is carried over. */
+   of it is carried over; what is left is stored and loaded. */
 void drawer_case(struct thread *thread)
 {
     const struct call running = {.function = &functions[DRAWER_START]};
@@ -69,6 +131,7 @@ void drawer_case(struct thread *thread)
         drawer = check_draw(
             thread, one_in(random, 2) ? DRAWER_DRAW : DRAWER_IV, drawer);
     }
+    check_load(thread, drawer, check_store(thread, drawer));
     thread->running = NULL;
 }
 
@@ -212,5 +275,13 @@ void book_case(struct thread *thread, size_t long_turn)
     require(thread,
             call.found.book == right.book && call.found.offset == right.offset,
             "another book or offset");
+    const uint8_t *this_term = call.loans[THIS_TERM].bytes;
+    const uint8_t *last_term = call.loans[LAST_TERM].bytes;
+    const uint8_t *key = vespruldo_found_key(call.found, this_term, last_term);
+    require(thread,
+            right.number != 0
+                ? key == NULL
+                : key == (right.book ? last_term : this_term) + right.offset,
+            "vespruldo_found_key: another place");
     thread->running = NULL;
 }

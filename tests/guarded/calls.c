@@ -14,6 +14,17 @@
 
 #define LENT(role) call->loans[role].bytes, call->loans[role].len
 
+static uint32_t run_card_seal(struct call *call)
+{
+    return vespruldo_card_seal(LENT(KEY), LENT(NONCE), LENT(DATA), LENT(TEXT),
+                               LENT(ROOM));
+}
+
+static uint32_t run_card_open(struct call *call)
+{
+    return vespruldo_card_open(LENT(KEY), LENT(DATA), LENT(CARD), LENT(ROOM));
+}
+
 static uint32_t run_seal(struct call *call)
 {
     return vespruldo_seal(LENT(KEY), LENT(NONCE), LENT(DATA), LENT(TEXT),
@@ -36,6 +47,24 @@ static uint32_t run_open_short(struct call *call)
 {
     return vespruldo_open_short(LENT(KEY), LENT(NONCE), LENT(TEXT), LENT(TAG),
                                 LENT(ROOM));
+}
+
+static uint32_t run_seal_in_place(struct call *call)
+{
+    return vespruldo_seal_in_place(LENT(KEY), LENT(NONCE), LENT(DATA),
+                                   LENT(TEXT), LENT(TAG));
+}
+
+static uint32_t run_open_in_place(struct call *call)
+{
+    return vespruldo_open_in_place(LENT(KEY), LENT(NONCE), LENT(DATA),
+                                   LENT(TEXT), LENT(TAG));
+}
+
+static uint32_t run_drawer_load(struct call *call)
+{
+    call->loaded = vespruldo_drawer_load(LENT(STORED));
+    return call->loaded.number;
 }
 
 static uint32_t run_key_find(struct call *call)
@@ -75,6 +104,11 @@ static uint32_t run_blake2b(struct call *call)
     return vespruldo_blake2b(LENT(KEY), LENT(TEXT), LENT(ROOM));
 }
 
+static uint32_t run_same(struct call *call)
+{
+    return vespruldo_same(LENT(ONE), LENT(OTHER));
+}
+
 static uint32_t opening_number(const struct call *call)
 {
     return call->opens ? 0 : 7;
@@ -91,50 +125,99 @@ static uint32_t find_number(const struct call *call)
     return plain_find(call).number;
 }
 
+static uint32_t loading_number(const struct call *call)
+{
+    return call->opens ? 0 : 106;
+}
+
+static uint32_t same_number(const struct call *call)
+{
+    const struct loan *one = &call->loans[ONE];
+    const struct loan *other = &call->loans[OTHER];
+    return one->len == other->len &&
+           memcmp(one->place, other->place, one->len) == 0;
+}
+
+/* A buffer of a length of its own, and one whose length goes with the text's. */
+#define PART(role, use, least, most, number) \
+    {role, use, least, most, number, number, false}
+#define WITH_TEXT(role, use, least, most, too_short, too_long) \
+    {role, use, least, most, too_short, too_long, true}
+/* Any length, and nothing to be refused. */
+#define ANY(role) PART(role, READ, 0, SIZE_MAX, 0)
+
 /* Rows that several functions share. */
-#define CARD_KEY {KEY, READ, 16, 16, 1, false}
-#define CARD_NONCE {NONCE, READ, 12, 12, 2, false}
-#define CARD_DATA {DATA, READ, 0, 65536, 3, false}
-#define CARD_TEXT {TEXT, READ, 0, 1048576, 4, false}
-#define CARD_TAG(use) {TAG, use, 16, 16, 5, false}
-#define CARD_ROOM {ROOM, WRITTEN, 0, SIZE_MAX, 6, true}
+#define CARD_KEY PART(KEY, READ, 16, 16, 1)
+#define CARD_NONCE PART(NONCE, READ, 12, 12, 2)
+#define CARD_DATA PART(DATA, READ, 0, 65536, 3)
+#define CARD_TEXT(use) PART(TEXT, use, 0, 1048576, 4)
+#define CARD_TAG(use) PART(TAG, use, 16, 16, 5)
+#define CARD_ROOM WITH_TEXT(ROOM, WRITTEN, 0, SIZE_MAX, 6, 6)
 #define LIONESS_PARTS \
-    {{KEY, READ, 128, 128, 1, false}, \
-     {NONCE, READ, 48, 48, 2, false}, \
-     {TEXT, CHANGED, 33, 1048608, 4, false}}
-#define GIFT_PARTS {CARD_KEY, {TEXT, CHANGED, 16, 16, 4, false}}
+    {PART(KEY, READ, 128, 128, 1), \
+     PART(NONCE, READ, 48, 48, 2), \
+     PART(TEXT, CHANGED, 33, 1048608, 4)}
+#define GIFT_PARTS {CARD_KEY, PART(TEXT, CHANGED, 16, 16, 4)}
 
 const struct function functions[FUNCTIONS] = {
+    [CARD_SEAL] = {.name = "vespruldo_card_seal", .run = run_card_seal,
+                   .part_count = 5,
+                   .parts = {CARD_KEY, CARD_NONCE, CARD_DATA,
+                             PART(TEXT, READ, 0, 65535, 4),
+                             WITH_TEXT(ROOM, WRITTEN, 30, SIZE_MAX, 6, 6)},
+                   .opened_by = &functions[CARD_OPEN], .as_seal = true},
+    [CARD_OPEN] = {.name = "vespruldo_card_open", .run = run_card_open,
+                   .number = opening_number, .refusal = 7,
+                   .part_count = 4,
+                   .parts = {CARD_KEY, CARD_DATA,
+                             WITH_TEXT(CARD, READ, 30, 30, 12, 15),
+                             CARD_ROOM}},
     [SEAL] = {.name = "vespruldo_seal", .run = run_seal,
               .part_count = 6,
-              .parts = {CARD_KEY, CARD_NONCE, CARD_DATA, CARD_TEXT,
+              .parts = {CARD_KEY, CARD_NONCE, CARD_DATA, CARD_TEXT(READ),
                         CARD_TAG(WRITTEN), CARD_ROOM},
               .opened_by = &functions[OPEN],
               .other_form = &functions[SEAL_SHORT]},
     [OPEN] = {.name = "vespruldo_open", .run = run_open,
               .number = opening_number, .refusal = 7,
               .part_count = 6,
-              .parts = {CARD_KEY, CARD_NONCE, CARD_DATA, CARD_TEXT,
+              .parts = {CARD_KEY, CARD_NONCE, CARD_DATA, CARD_TEXT(READ),
                         CARD_TAG(READ), CARD_ROOM}},
     [SEAL_SHORT] = {.name = "vespruldo_seal_short", .run = run_seal_short,
                     .part_count = 5,
-                    .parts = {CARD_KEY, CARD_NONCE, CARD_TEXT,
+                    .parts = {CARD_KEY, CARD_NONCE, CARD_TEXT(READ),
                               CARD_TAG(WRITTEN), CARD_ROOM},
                     .opened_by = &functions[OPEN_SHORT],
                     .other_form = &functions[SEAL]},
     [OPEN_SHORT] = {.name = "vespruldo_open_short", .run = run_open_short,
                     .number = opening_number, .refusal = 7,
                     .part_count = 5,
-                    .parts = {CARD_KEY, CARD_NONCE, CARD_TEXT, CARD_TAG(READ),
-                              CARD_ROOM}},
+                    .parts = {CARD_KEY, CARD_NONCE, CARD_TEXT(READ),
+                              CARD_TAG(READ), CARD_ROOM}},
+    [SEAL_IN_PLACE] = {.name = "vespruldo_seal_in_place",
+                       .run = run_seal_in_place,
+                       .part_count = 5,
+                       .parts = {CARD_KEY, CARD_NONCE, CARD_DATA,
+                                 CARD_TEXT(CHANGED), CARD_TAG(WRITTEN)},
+                       .opened_by = &functions[OPEN_IN_PLACE],
+                       .as_seal = true},
+    [OPEN_IN_PLACE] = {.name = "vespruldo_open_in_place",
+                       .run = run_open_in_place,
+                       .number = opening_number, .refusal = 7,
+                       .part_count = 5,
+                       .parts = {CARD_KEY, CARD_NONCE, CARD_DATA,
+                                 CARD_TEXT(CHANGED), CARD_TAG(READ)}},
     [DRAWER_START] = {.name = "vespruldo_drawer_start"},
     [DRAWER_DRAW] = {.name = "vespruldo_drawer_draw", .refusal = 9},
     [DRAWER_IV] = {.name = "vespruldo_drawer_iv", .refusal = 9},
+    [DRAWER_STORE] = {.name = "vespruldo_drawer_store"},
+    [DRAWER_LOAD] = {.name = "vespruldo_drawer_load", .run = run_drawer_load,
+                     .number = loading_number, .refusal = 106,
+                     .part_count = 1, .parts = {ANY(STORED)}},
     [KEY_FIND] = {.name = "vespruldo_key_find", .run = run_key_find,
                   .number = find_number, .refusal = 10, .other_refusal = 11,
                   .part_count = 2,
-                  .parts = {{THIS_TERM, READ, 0, SIZE_MAX, 10, false},
-                            {LAST_TERM, READ, 0, SIZE_MAX, 10, false}}},
+                  .parts = {ANY(THIS_TERM), ANY(LAST_TERM)}},
     [LIONESS_ENCIPHER] = {.name = "vespruldo_lioness_encipher",
                           .run = run_lioness_encipher,
                           .part_count = 3, .parts = LIONESS_PARTS,
@@ -154,20 +237,25 @@ const struct function functions[FUNCTIONS] = {
     [CHACHA20] = {.name = "vespruldo_chacha20", .run = run_chacha20,
                   .number = stream_number, .refusal = 8,
                   .part_count = 3,
-                  .parts = {{KEY, READ, 32, 32, 1, false}, CARD_NONCE,
-                            {TEXT, CHANGED, 0, 1048576, 4, false}},
+                  .parts = {PART(KEY, READ, 32, 32, 1), CARD_NONCE,
+                            CARD_TEXT(CHANGED)},
                   .undone_by = &functions[CHACHA20]},
     [BLAKE2B] = {.name = "vespruldo_blake2b", .run = run_blake2b,
                  .part_count = 3,
-                 .parts = {{KEY, READ, 0, 64, 1, false}, CARD_TEXT,
-                           {ROOM, WRITTEN, 1, 64, 6, false}}},
+                 .parts = {PART(KEY, READ, 0, 64, 1), CARD_TEXT(READ),
+                           PART(ROOM, WRITTEN, 1, 64, 6)}},
+    [SAME] = {.name = "vespruldo_same", .run = run_same,
+              .number = same_number, .refusal = 1,
+              .part_count = 2, .parts = {ANY(ONE), ANY(OTHER)}},
+    [VERSION] = {.name = "vespruldo_version"},
+    [INTERFACE] = {.name = "vespruldo_interface_1"},
 };
 
 static const char *const role_names[ROLES] = {
     [KEY] = "key",
     [NONCE] = "nonce or iv",
     [DATA] = "data",
-    [TEXT] = "text, block or this term's book",
+    [TEXT] = "text, block, card, drawer or this term's book",
     [TAG] = "tag",
     [ROOM] = "room or last term's book",
 };
@@ -246,9 +334,26 @@ bool promised(const struct function *function, uint32_t number)
     bool found = number == 0 || number == function->refusal ||
                  number == function->other_refusal;
     for (size_t p = 0; p < function->part_count; p++) {
-        found = found || number == function->parts[p].refusal;
+        found = found || number == function->parts[p].too_short ||
+                number == function->parts[p].too_long;
     }
     return found;
+}
+
+size_t text_length(const struct call *call)
+{
+    const struct loan *loan = &call->loans[TEXT];
+    if (call->function != &functions[CARD_OPEN]) {
+        return loan->len;
+    }
+    return (size_t)(loan->len > 12 ? loan->place[12] : 0) |
+           (size_t)(loan->len > 13 ? loan->place[13] : 0) << 8;
+}
+
+size_t written(const struct call *call, const struct part *part)
+{
+    return part->with_text ? text_length(call) + part->least
+                           : call->loans[part->role].len;
 }
 
 static struct loan *lend_part(struct thread *thread, struct call *call,
@@ -279,16 +384,26 @@ void lend_copy(struct thread *thread, struct call *call, enum set set,
     }
 }
 
-/* "Where several apply, the smallest number is given." */
+/* The number for the length of one buffer, or 0. */
+static uint32_t length_number(const struct call *call, const struct part *part)
+{
+    size_t len = call->loans[part->role].len;
+    size_t text = part->with_text ? text_length(call) : 0;
+    if (len < text + part->least) {
+        return part->too_short;
+    }
+    return len - text > part->most ? part->too_long : 0;
+}
+
+/* "Where several apply, the smallest number is given": the first of the parts,
+   which only for a card that is opened are not in the order of numbers. */
 static uint32_t number_asked_for(const struct call *call)
 {
     const struct function *function = call->function;
     for (size_t p = 0; p < function->part_count; p++) {
-        const struct part *part = &function->parts[p];
-        size_t len = call->loans[part->role].len;
-        size_t least = part->as_text ? call->loans[TEXT].len : part->least;
-        if (len < least || len > part->most) {
-            return part->refusal;
+        uint32_t number = length_number(call, &function->parts[p]);
+        if (number != 0) {
+            return number;
         }
     }
     return function->number == NULL ? 0 : function->number(call);
@@ -299,10 +414,7 @@ static size_t first_kept(const struct call *call, const struct part *part,
                          uint32_t number)
 {
     bool touched = number == 0 || number == 7;
-    if (part->use == READ || !touched) {
-        return 0;
-    }
-    return call->loans[part->as_text ? TEXT : part->role].len;
+    return part->use == READ || !touched ? 0 : written(call, part);
 }
 
 static bool all_zero(const uint8_t *bytes, size_t len)

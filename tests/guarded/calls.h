@@ -12,27 +12,36 @@
 /* What a buffer is for. */
 enum role { KEY, NONCE, DATA, TEXT, TAG, ROOM, ROLES };
 
-/* Books are lent in the arenas of text and room: no call has all four. */
+/* Books, and two buffers to be compared, are lent in the arenas of text and
+   room: no call has all of these. So are a card that is opened and a drawer that
+   is loaded, in that of the text. */
 #define THIS_TERM TEXT
 #define LAST_TERM ROOM
+#define CARD TEXT
+#define STORED TEXT
+#define ONE TEXT
+#define OTHER ROOM
 
 enum use { READ, WRITTEN, CHANGED };
 
-/* One buffer of a function: its lengths, and the number for all others. */
+/* One buffer of a function: its lengths, and the numbers for all others. */
 struct part {
     enum role role;
     enum use use;
     size_t least, most;
-    uint32_t refusal;
-    /* The least length is the text's, and so many bytes are written. */
-    bool as_text;
+    uint32_t too_short, too_long;
+    /* The lengths are what there is beyond the text, and of a room so many bytes
+       are written as it must have at least. */
+    bool with_text;
 };
 
 enum function_name {
-    SEAL, OPEN, SEAL_SHORT, OPEN_SHORT,
-    DRAWER_START, DRAWER_DRAW, DRAWER_IV, KEY_FIND,
+    CARD_SEAL, CARD_OPEN, SEAL, OPEN, SEAL_SHORT, OPEN_SHORT,
+    SEAL_IN_PLACE, OPEN_IN_PLACE,
+    DRAWER_START, DRAWER_DRAW, DRAWER_IV, DRAWER_STORE, DRAWER_LOAD, KEY_FIND,
     LIONESS_ENCIPHER, LIONESS_DECIPHER,
     GIFT_ENCIPHER, GIFT_DECIPHER, CHACHA20, BLAKE2B,
+    SAME, VERSION, INTERFACE,
     FUNCTIONS
 };
 
@@ -40,14 +49,15 @@ struct call;
 
 struct function {
     const char *name;
-    /* Not for drawers, which are lent nothing. */
+    /* Not where nothing is lent. */
     uint32_t (*run)(struct call *call);
     /* The number where all lengths are allowed, unless that is always 0. */
     uint32_t (*number)(const struct call *call);
     size_t part_count;
     /* In the order of their refusals. */
     struct part parts[6];
-    /* A refusal that is not one of a length; one more where that has two. */
+    /* A refusal that is not one of a length; one more where that has two. What
+       is not a refusal is counted as one: that two buffers are the same. */
     uint32_t refusal, other_refusal;
     /* Works in one buffer, and this function gives back what was there. */
     const struct function *undone_by;
@@ -55,20 +65,24 @@ struct function {
     const struct function *opened_by;
     /* The same without associated data, or with it. */
     const struct function *other_form;
+    /* Writes what SEAL writes, to other places. */
+    bool as_seal;
 };
 
 extern const struct function functions[FUNCTIONS];
 
-#define NUMBERS 12
+/* All numbers are smaller. */
+#define NUMBERS 107
 
 struct call {
     const struct function *function;
     struct loan loans[ROLES];
     uint32_t start;
     uint16_t class_number;
-    /* What is to be opened was sealed so. */
+    /* What is to be opened was sealed so; what is to be loaded, stored so. */
     bool opens;
     vespruldo_found found;
+    vespruldo_loaded loaded;
 };
 
 /* Loans of a call lie in one of two sets of arenas, so that a second call can
@@ -98,6 +112,13 @@ void fail_at(const struct thread *thread, int signal_number,
              const void *address) __attribute__((noreturn));
 
 void require(const struct thread *thread, bool holds, const char *otherwise);
+
+/* How long the text of a call is; of a card that is opened, the length that it
+   says, where bytes that are not there count as 0. */
+size_t text_length(const struct call *call);
+
+/* How many bytes of the buffer are written when all is done. */
+size_t written(const struct call *call, const struct part *part);
 
 /* Does the function promise this number? */
 bool promised(const struct function *function, uint32_t number);

@@ -6,14 +6,14 @@
 
 /* Every so many rounds through the functions a length is the longest, or one
    more: such a call takes as long as ten thousand others. */
-#define LONG_EVERY 500
+#define LONG_EVERY 300
 /* From here the key stream for the longest text ends with the last counter. */
 #define LAST_LONG_START (UINT32_MAX - 1048576 / 64 + 1)
 /* What a wide block has before its right part, and the nonce of one step. */
 #define LEFT 32
 #define STEP_NONCE 12
 
-static size_t short_length(struct random *random)
+size_t short_length(struct random *random)
 {
     static const size_t edges[] = {0,  1,  15, 16,  17,  31,  32,  33,  63,
                                    64, 65, 96, 127, 128, 129, 255, 256, 257};
@@ -31,16 +31,24 @@ static size_t short_length(struct random *random)
 
 static bool can_be_long(const struct part *part)
 {
-    return part->most > 4097 && !part->as_text;
+    return part->most > 4097 && !part->with_text;
 }
 
 static size_t right_length(struct random *random, const struct part *part,
                            size_t text_len)
 {
-    if (part->as_text) {
-        return text_len + (one_in(random, 2) ? random_below(random, 41) : 0);
+    if (part->with_text) {
+        return text_len + part->least +
+               (one_in(random, 2) ? random_below(random, 41) : 0);
     }
     return part->least + short_length(random) % (part->most - part->least + 1);
+}
+
+void lend_room(struct thread *thread, struct call *call, enum set set,
+               const struct part *part, size_t text_len)
+{
+    lend_random(thread, call, set, part->role,
+                right_length(&thread->random, part, text_len));
 }
 
 /* Just outside of what is allowed or far from it, above or below; the right
@@ -48,9 +56,9 @@ static size_t right_length(struct random *random, const struct part *part,
 static size_t wrong_length(struct random *random, const struct part *part,
                            size_t text_len)
 {
-    size_t least = part->as_text ? text_len : part->least;
+    size_t least = part->least + (part->with_text ? text_len : 0);
     bool near = one_in(random, 2);
-    bool above = !can_be_long(part) && !part->as_text;
+    bool above = !can_be_long(part) && !part->with_text;
     if (above && (least == 0 || one_in(random, 2))) {
         return part->most + 1 + (near ? 0 : short_length(random));
     }
@@ -89,7 +97,11 @@ static void lend_parts(struct thread *thread, struct call *call,
     size_t long_place = long_part(function, long_turn, &long_len);
     for (size_t p = 0; p < function->part_count; p++) {
         const struct part *part = &function->parts[p];
-        size_t text_len = call->loans[TEXT].len;
+        if (function == &functions[CARD_OPEN] && part->role == CARD) {
+            lend_card(thread, call);
+            continue;
+        }
+        size_t text_len = text_length(call);
         bool wrong = long_turn == 0 && one_in(random, 12);
         size_t len = p == long_place ? long_len
                      : wrong         ? wrong_length(random, part, text_len)
@@ -108,29 +120,21 @@ static uint32_t random_start(struct random *random)
                              : (uint32_t)random_word(random);
 }
 
-/* What a call was given for the role. */
-static const uint8_t *given(const struct call *call, enum role role)
+const uint8_t *given(const struct call *call, enum role role)
 {
     return call->loans[role].arena->before;
 }
 
-static size_t written(const struct call *call, const struct part *part)
-{
-    return call->loans[part->as_text ? TEXT : part->role].len;
-}
-
-/* A second call, not made yet, with what the first was given. */
-static struct call second_call(struct thread *thread, const struct call *first,
-                               const struct function *function)
+struct call second_call(struct thread *thread, const struct call *first,
+                        const struct function *function)
 {
     struct call second = {.function = function, .start = first->start};
     for (size_t p = 0; p < function->part_count; p++) {
         const struct part *part = &function->parts[p];
         size_t len = first->loans[part->role].len;
-        if (part->as_text) {
-            len = right_length(&thread->random, part, first->loans[TEXT].len);
-        }
-        if (part->use == WRITTEN || len == 0) {
+        if (part->with_text) {
+            lend_room(thread, &second, SECOND, part, text_length(first));
+        } else if (part->use == WRITTEN || len == 0) {
             lend_random(thread, &second, SECOND, part->role, len);
         } else {
             lend_copy(thread, &second, SECOND, part->role,
@@ -172,9 +176,7 @@ static void check_same(struct thread *thread, const struct call *first,
                 : "with empty data, short form and full form differ");
 }
 
-/* Flips a bit of one of the buffers that are read; each is as likely, however
-   long. False if all are empty. */
-static bool flip_bit(struct random *random, const struct call *call)
+bool flip_bit(struct random *random, const struct call *call)
 {
     const struct loan *loans[6];
     size_t found = 0;
@@ -223,30 +225,6 @@ static void check_undone(struct thread *thread, const struct call *first)
             memcmp(second.loans[TEXT].place, given(first, TEXT),
                    text->len) == 0,
             "did not give back what was there");
-}
-
-static struct call opening_of(struct thread *thread, const struct call *sealed)
-{
-    struct call call = second_call(thread, sealed, sealed->function->opened_by);
-    lend_copy(thread, &call, SECOND, TEXT, sealed->loans[ROOM].place,
-              sealed->loans[TEXT].len);
-    lend_copy(thread, &call, SECOND, TAG, sealed->loans[TAG].place,
-              sealed->loans[TAG].len);
-    return call;
-}
-
-static void check_opened(struct thread *thread, const struct call *sealed)
-{
-    struct call right = opening_of(thread, sealed);
-    right.opens = true;
-    make_call(thread, &right);
-    require(thread,
-            memcmp(right.loans[ROOM].place, given(sealed, TEXT),
-                   sealed->loans[TEXT].len) == 0,
-            "opened to another text");
-    struct call wrong = opening_of(thread, sealed);
-    flip_bit(&thread->random, &wrong);
-    make_call(thread, &wrong);
 }
 
 /* Makes a call for a piece of the text, with the counter of its first block. */
@@ -345,6 +323,9 @@ static void check_done(struct thread *thread, const struct call *call)
     if (function->opened_by != NULL) {
         check_opened(thread, call);
     }
+    if (function->as_seal) {
+        check_as_seal(thread, call);
+    }
     if (function == &functions[CHACHA20]) {
         check_cut(thread, call);
     }
@@ -381,10 +362,19 @@ void make_case(struct thread *thread, uint64_t case_number)
     case DRAWER_START:
     case DRAWER_DRAW:
     case DRAWER_IV:
+    case DRAWER_STORE:
+    case DRAWER_LOAD:
         drawer_case(thread);
         break;
     case KEY_FIND:
         book_case(thread, long_turn);
+        break;
+    case SAME:
+        same_case(thread);
+        break;
+    case VERSION:
+    case INTERFACE:
+        header_case(thread);
         break;
     default:
         buffer_case(thread, name, long_turn);

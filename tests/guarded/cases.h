@@ -6,7 +6,7 @@
 
 #include "calls.h"
 
-/* Fails unless the functions answer what others have published. */
+/* Fails unless the functions answer what others have published, or computed. */
 void check_published(struct thread *thread);
 
 /* Makes the case that the thread's seed and this number give. */
@@ -18,5 +18,33 @@ void buffer_case(struct thread *thread, enum function_name name,
                  size_t long_turn);
 void drawer_case(struct thread *thread);
 void book_case(struct thread *thread, size_t long_turn);
+void same_case(struct thread *thread);
+void header_case(struct thread *thread);
+
+/* A length, mostly of a few blocks, and often at the edge of one. */
+size_t short_length(struct random *random);
+
+/* Lends a card to be opened, often of another length than it says. */
+void lend_card(struct thread *thread, struct call *call);
+
+/* Lends bytes to write to, at times more than the text needs. */
+void lend_room(struct thread *thread, struct call *call, enum set set,
+               const struct part *part, size_t text_len);
+
+/* What a call was given for the role. */
+const uint8_t *given(const struct call *call, enum role role);
+
+/* A second call, not made yet, with what the first was given. */
+struct call second_call(struct thread *thread, const struct call *first,
+                        const struct function *function);
+
+/* Flips a bit of one of the buffers that are read; each is as likely, however
+   long. False if all are empty. */
+bool flip_bit(struct random *random, const struct call *call);
+
+/* What sealing must also show: that it is opened, but not with a flipped bit,
+   and that all forms of it write the same. */
+void check_opened(struct thread *thread, const struct call *sealed);
+void check_as_seal(struct thread *thread, const struct call *sealed);
 
 #endif

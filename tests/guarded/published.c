@@ -1,5 +1,5 @@
-/* Values that others have published, so that functions that only agree with
-   each other do not pass. */
+/* Values that others have published or computed, so that functions that only
+   agree with each other do not pass. */
 
 #include <string.h>
 
@@ -55,6 +55,13 @@ static const struct published table[] = {
                "874d"},
 };
 
+/* Reader 4275878552 at count 81985529216486895, stored; the digest is by
+   Python's hashlib. */
+static const vespruldo_drawer stored_drawer = {0xfedcba98, 0x0123456789abcdef};
+static const char stored_bytes[] =
+    "98badcfe" "efcdab8967452301"
+    "addbc1c3f945b6647a43681e691551bd240189c9439b3d393b4ce3a0e3c79176";
+
 static uint8_t digit(char letter)
 {
     return (uint8_t)(letter <= '9' ? letter - '0' : letter - 'a' + 10);
@@ -70,8 +77,21 @@ static size_t read_hex(const char *digits, uint8_t *bytes)
     return len;
 }
 
+static void check_stored(struct thread *thread)
+{
+    const struct call running = {.function = &functions[DRAWER_STORE]};
+    uint8_t bytes[sizeof(vespruldo_stored)];
+    thread->running = &running;
+    read_hex(stored_bytes, bytes);
+    vespruldo_stored stored = vespruldo_drawer_store(stored_drawer);
+    require(thread, memcmp(stored.bytes, bytes, sizeof bytes) == 0,
+            "not the bytes that another library computes");
+    thread->running = NULL;
+}
+
 void check_published(struct thread *thread)
 {
+    check_stored(thread);
     uint8_t bytes[128];
     for (size_t i = 0; i < sizeof table / sizeof table[0]; i++) {
         const struct published *row = &table[i];

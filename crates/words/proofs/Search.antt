@@ -34,14 +34,16 @@ unfolding same
 other-length [] [] h = absurd (h refl)
 other-length [] (c ∷ t) h = refl
 other-length (b ∷ s) [] h = refl
-other-length (b ∷ s) (c ∷ t) h = ap (λ (u : Bool). eqb b c && u) (other-length s t (λ z. h (ap suc z))) ∙ and-false (eqb b c)
+other-length (b ∷ s) (c ∷ t) h =
+    ap (λ (u : Bool). eqb b c && u) (other-length s t (λ z. h (ap suc z))) ∙ and-false (eqb b c)
 
 -- what has differed so far is joined with what differs next
 joined : (d a b : ℕ) → eqb (bitOr d (bitXor a b)) 0 ≡ eqb d 0 && eqb a b
 joined d a b =
     elim (ℕ-discrete a b) [
       | yes e ↦ ap (λ (x : ℕ). eqb (bitOr d x) 0) (ap (λ (x : ℕ). bitXor x b) e ∙ xor-self b)
-          ∙ ap (λ (x : ℕ). eqb x 0) (or-zero-r d) ∙ sym (ap (λ (u : Bool). eqb d 0 && u) (eq-eqb a b e) ∙ and-true (eqb d 0))
+          ∙ ap (λ (x : ℕ). eqb x 0) (or-zero-r d)
+          ∙ sym (ap (λ (u : Bool). eqb d 0 && u) (eq-eqb a b e) ∙ and-true (eqb d 0))
       | no n ↦ ne-eqb (bitOr d (bitXor a b)) 0 (λ z. n (xor-zero a b (or-zero d (bitXor a b) z .1)))
           ∙ sym (ap (λ (u : Bool). eqb d 0 && u) (ne-eqb a b n) ∙ and-false (eqb d 0))
     ]

@@ -1,0 +1,47 @@
+/* Mistakes that a compiler can see: MISTAKE says which one is compiled, and the
+   comment beside it which warning of GCC's it draws. 0 is none. */
+
+#include <vespruldo.h>
+
+extern const uint8_t key[16], nonce[12];
+extern uint8_t tag[16], small[20], *text;
+extern size_t len;
+
+uint32_t called(void);
+
+uint32_t called(void)
+{
+#if MISTAKE == 0
+    return vespruldo_seal(key, 16, nonce, 12, NULL, 0, text, len, small, 20,
+                          tag, 16);
+#elif MISTAKE == 1 /* restrict */
+    /* Text and room are one buffer. */
+    return vespruldo_seal(key, 16, nonce, 12, NULL, 0, text, len, text, len,
+                          tag, 16);
+#elif MISTAKE == 2 /* restrict */
+    /* So are a card and its room. */
+    return vespruldo_card_open(key, 16, NULL, 0, text, len, text, len);
+#elif MISTAKE == 3 /* stringop-overflow= */
+    /* The room is smaller than it is said to be. */
+    return vespruldo_card_seal(key, 16, nonce, 12, NULL, 0, text, 20, small,
+                               50);
+#elif MISTAKE == 4 /* stringop-overflow= */
+    /* So is the buffer that is worked in. */
+    return vespruldo_seal_in_place(key, 16, nonce, 12, NULL, 0, small, 21, tag,
+                                   16);
+#elif MISTAKE == 5 /* stringop-overread */
+    /* So is the data. */
+    return vespruldo_seal_in_place(key, 16, nonce, 12, small, 21, text, len,
+                                   tag, 16);
+#elif MISTAKE == 6 /* nonnull */
+    /* There is no room at all. */
+    return vespruldo_card_open(key, 16, NULL, 0, text, len, NULL, 20);
+#elif MISTAKE == 7 /* unused-result */
+    /* Nobody looks at the answer. */
+    vespruldo_seal_in_place(key, 16, nonce, 12, NULL, 0, text, len, tag, 16);
+    return 0;
+#elif MISTAKE == 8 /* unused-result */
+    vespruldo_same(text, len, tag, 16);
+    return 0;
+#endif
+}
