@@ -1,5 +1,5 @@
-//! A card as a file: sealing a text into one, and opening it. Quotations are
-//! from docs/cards.1 unless they name a document.
+//! A card as a file or in memory: sealing a text into one, and opening it.
+//! Quotations are from docs/cards.1 unless they name a document.
 
 use crate::hyena;
 
@@ -67,38 +67,69 @@ fn taken_apart(file: &[u8]) -> Option<Parts<'_>> {
 /// allowed. "Where several apply, the smallest number is given" (document 01,
 /// What comes back).
 pub fn seal(key: &[u8], nonce: &[u8], data: &[u8], text: &[u8]) -> Result<Vec<u8>, u32> {
+    // HyENA itself takes longer texts; of one that is too long for a card only
+    // the other lengths are judged here.
+    let too_long = text.len() > LONGEST_TEXT;
+    let text = if too_long { &[] } else { text };
     let mut ciphertext = vec![0; text.len()];
     let mut tag = [0; TAG];
     match hyena::seal(key, nonce, data, text, &mut ciphertext, &mut tag) {
-        // HyENA itself takes longer texts.
-        0 if text.len() > LONGEST_TEXT => Err(4),
+        0 if too_long => Err(4),
         0 => Ok(made(nonce, &ciphertext, &tag)),
         number => Err(number),
     }
 }
 
-/// The text of the card in `file`, or the number of the refusal: 1 key has a
-/// wrong length, 3 associated data too long, 12 cut short, 15 bytes left over, 7
-/// tag is not the recomputed one. "7 is given only for a card that is as long as
-/// it says."
-pub fn open(key: &[u8], data: &[u8], file: &[u8]) -> Result<Vec<u8>, u32> {
+/// [`seal`] into lent room, which is longer by as many bytes as one likes: "the
+/// rest of longer room keeps its bytes" (include/vespruldo.h). Answers 0 or the
+/// number of the refusal: those of [`seal`], and last 6, "room shorter than the
+/// text and 30 bytes".
+pub fn seal_into(key: &[u8], nonce: &[u8], data: &[u8], text: &[u8], room: &mut [u8]) -> u32 {
+    let card = match seal(key, nonce, data, text) {
+        Ok(card) => card,
+        Err(number) => return number,
+    };
+    match room.get_mut(..card.len()) {
+        Some(front) => front.copy_from_slice(&card),
+        None => return 6,
+    }
+    0
+}
+
+/// The card that `file` is, or the number of the refusal: 1 key has a wrong
+/// length, 3 associated data too long, 12 cut short, 15 bytes left over.
+fn whole<'a>(key: &[u8], data: &[u8], file: &'a [u8]) -> Result<Parts<'a>, u32> {
     if key.len() != KEY {
         return Err(1);
     }
     if data.len() > LONGEST_DATA {
         return Err(3);
     }
-    let Parts {
-        nonce,
-        ciphertext,
-        tag,
-        left_over,
-    } = taken_apart(file).ok_or(12_u32)?;
-    if left_over > 0 {
+    let parts = taken_apart(file).ok_or(12_u32)?;
+    if parts.left_over > 0 {
         return Err(15);
     }
-    let mut text = vec![0; ciphertext.len()];
-    match hyena::open(key, nonce, data, ciphertext, tag, &mut text) {
+    Ok(parts)
+}
+
+/// Opens the card `file` into lent room. Answers 0 or the number of the refusal,
+/// "the first that the function's comment names" (include/vespruldo.h): 1, 3, 12
+/// and 15 as above, 6 "room shorter than the text", 7 tag is not the recomputed
+/// one. "7 is given only for a card that is as long as it says." After 7 "the
+/// first bytes of the room, as many as the text has, are each 0"
+/// (include/vespruldo.h).
+pub fn open_into(key: &[u8], data: &[u8], file: &[u8], room: &mut [u8]) -> u32 {
+    match whole(key, data, file) {
+        Ok(parts) => hyena::open(key, parts.nonce, data, parts.ciphertext, parts.tag, room),
+        Err(number) => number,
+    }
+}
+
+/// The text of the card in `file`, or the number of the refusal: those of
+/// [`open_into`] but for 6, since there is room.
+pub fn open(key: &[u8], data: &[u8], file: &[u8]) -> Result<Vec<u8>, u32> {
+    let mut text = vec![0; whole(key, data, file)?.ciphertext.len()];
+    match open_into(key, data, file, &mut text) {
         0 => Ok(text),
         number => Err(number),
     }
@@ -179,5 +210,47 @@ mod tests {
             assert_eq!(open(&[5; 16], &vec![5; data], &longer), Err(15));
             assert_eq!(open(&[5; 16], &vec![5; data], &card[..33]), Err(12));
         }
+    }
+
+    /// The number and what `len` bytes of room hold, 9 each before, when a call
+    /// that answers this number has written these bytes, if there was room.
+    fn written(len: usize, number: u32, front: &[u8]) -> (u32, Vec<u8>) {
+        match len.checked_sub(front.len()) {
+            Some(rest) => (number, [front, &vec![9; rest]].concat()),
+            None => (6, vec![9; len]),
+        }
+    }
+
+    #[test]
+    fn cards_go_into_room_that_is_long_enough() {
+        let (key, nonce, data, text) = ([5; 16], [6; 12], [7; 9], b"duck");
+        let card = seal(&key, &nonce, &data, text).unwrap();
+        for len in 0..60 {
+            let mut room = vec![9; len];
+            let number = seal_into(&key, &nonce, &data, text, &mut room);
+            assert_eq!((number, room), written(len, 0, &card));
+            let mut room = vec![9; len];
+            let number = open_into(&key, &data, &card, &mut room);
+            assert_eq!((number, room), written(len, 0, text));
+            let mut room = vec![9; len];
+            let number = open_into(&key, &data[1..], &card, &mut room);
+            assert_eq!((number, room), written(len, 7, &[0; 4]));
+        }
+    }
+
+    #[test]
+    fn room_is_judged_after_the_other_lengths() {
+        let card = seal(&[5; 16], &[5; 12], &[5; 9], b"duck").unwrap();
+        for (number, file) in [
+            (6, &card[..]),
+            (12, &card[..33]),
+            (15, &[&card[..], &[0]].concat()),
+        ] {
+            assert_eq!(open_into(&[5; 16], &[5; 9], file, &mut [0; 3]), number);
+        }
+        assert_eq!(open_into(&[5; 16], &vec![5; 65_537], &card, &mut [0; 3]), 3);
+        let long = vec![5; LONGEST_TEXT + 1];
+        assert_eq!(seal_into(&[5; 16], &[5; 12], &[], &long, &mut []), 4);
+        assert_eq!(seal_into(&[5; 16], &[5; 11], &[], b"duck", &mut []), 2);
     }
 }

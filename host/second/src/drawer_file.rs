@@ -12,7 +12,7 @@ const FRONT: usize = 12;
 /// The file of a drawer, "44 bytes: the reader's number in four and the count in
 /// eight, low bytes first, that is the next nonce; and the 32-byte BLAKE2b
 /// digest of these 12 (no key), by which damage is seen."
-pub fn keep(drawer: Drawer) -> Vec<u8> {
+pub fn store(drawer: Drawer) -> Vec<u8> {
     let reader = drawer.reader.to_le_bytes();
     let count = drawer.count.to_le_bytes();
     let front = [&reader[..], &count].concat();
@@ -24,11 +24,11 @@ pub fn keep(drawer: Drawer) -> Vec<u8> {
 
 /// The drawer that a file's bytes are; nothing if they are damaged (106), which
 /// "is also given for what is no drawer file at all".
-pub fn recall(file: &[u8]) -> Option<Drawer> {
+pub fn load(file: &[u8]) -> Option<Drawer> {
     let reader = u32::from_le_bytes(file.get(..4)?.try_into().ok()?);
     let count = u64::from_le_bytes(file.get(4..FRONT)?.try_into().ok()?);
     let drawer = drawer::start(reader, count);
-    (file == keep(drawer)).then_some(drawer)
+    (file == store(drawer)).then_some(drawer)
 }
 
 #[cfg(test)]
@@ -37,7 +37,7 @@ mod tests {
 
     #[test]
     fn file_is_reader_count_and_digest() {
-        let file = keep(drawer::start(0x0102_0304, 0x1112_1314_1516_1718));
+        let file = store(drawer::start(0x0102_0304, 0x1112_1314_1516_1718));
         let front = [4, 3, 2, 1, 0x18, 0x17, 0x16, 0x15, 0x14, 0x13, 0x12, 0x11];
         assert_eq!(file[..12], front);
         let mut digest = [0; 32];
@@ -48,17 +48,17 @@ mod tests {
     #[test]
     fn every_damage_is_seen() {
         for state in [drawer::start(0, 0), drawer::start(u32::MAX, u64::MAX)] {
-            let file = keep(state);
-            assert_eq!(recall(&file), Some(state));
+            let file = store(state);
+            assert_eq!(load(&file), Some(state));
             for bit in 0..8 * LENGTH {
                 let mut damaged = file.clone();
                 damaged[bit / 8] ^= 1 << (bit % 8);
-                assert_eq!(recall(&damaged), None, "{bit}");
+                assert_eq!(load(&damaged), None, "{bit}");
             }
             for len in 0..LENGTH {
-                assert_eq!(recall(&file[..len]), None, "{len}");
+                assert_eq!(load(&file[..len]), None, "{len}");
             }
-            assert_eq!(recall(&[&file[..], &[0]].concat()), None);
+            assert_eq!(load(&[&file[..], &[0]].concat()), None);
         }
     }
 }

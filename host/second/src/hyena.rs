@@ -290,6 +290,26 @@ pub fn open_short(key: &[u8], nonce: &[u8], ciphertext: &[u8], tag: &[u8], room:
     open(key, nonce, &[], ciphertext, tag, room)
 }
 
+/// [`seal`] "where text and room are one buffer, which then holds the
+/// ciphertext" (include/vespruldo.h); 6 cannot arise.
+pub fn seal_in_place(
+    key: &[u8],
+    nonce: &[u8],
+    data: &[u8],
+    buffer: &mut [u8],
+    tag: &mut [u8],
+) -> u32 {
+    let text = buffer.to_vec();
+    seal(key, nonce, data, &text, buffer, tag)
+}
+
+/// [`open`] "where ciphertext and room are one buffer, which then holds the
+/// text" (include/vespruldo.h); 6 cannot arise. With 7 "the whole buffer is 0".
+pub fn open_in_place(key: &[u8], nonce: &[u8], data: &[u8], buffer: &mut [u8], tag: &[u8]) -> u32 {
+    let ciphertext = buffer.to_vec();
+    open(key, nonce, data, &ciphertext, tag, buffer)
+}
+
 #[cfg(test)]
 mod tests {
     use super::*;
@@ -685,6 +705,26 @@ mod tests {
                     or(5, text - 1, text),
                 ],
             );
+        }
+    }
+
+    #[test]
+    fn one_buffer_holds_what_two_would() {
+        let mut random = Random::new(63);
+        for len in [0, 1, 15, 16, 17, 40] {
+            let [key, nonce, data, text] = [16, 12, 7, len].map(|len| random.bytes(len));
+            let (mut room, mut tag) = (vec![0; len], [0; 16]);
+            assert_eq!(seal(&key, &nonce, &data, &text, &mut room, &mut tag), 0);
+
+            let (mut buffer, mut tag_of_buffer) = (text.clone(), [0; 16]);
+            let number = seal_in_place(&key, &nonce, &data, &mut buffer, &mut tag_of_buffer);
+            assert_eq!((number, &buffer, tag_of_buffer), (0, &room, tag));
+            let number = open_in_place(&key, &nonce, &data, &mut buffer, &tag);
+            assert_eq!((number, &buffer), (0, &text));
+
+            assert_eq!(open_in_place(&key, &nonce, &data, &mut room, &tag[1..]), 5);
+            assert_eq!(open_in_place(&key, &nonce, &[], &mut room, &tag), 7);
+            assert_eq!(room, vec![0; len]);
         }
     }
 }

@@ -16,11 +16,13 @@ fn changed(a: &[u8], b: &[u8]) -> usize {
 
 fn main() -> Result<(), Refusal> {
     let key = WideKey::from([1; 128]);
-    let iv = Drawer::start(2026, 0).iv()?;
+    let fresh = Drawer::start(2026, 0).draw_iv()?;
 
     let plain = recording();
     let mut block = plain.clone();
-    lioness_encipher(&key, &iv, &mut block)?;
+    // The fresh iv goes, and comes back as one that only deciphers; it is stored
+    // with the block.
+    let iv = lioness_encipher(&key, fresh, &mut block)?;
     assert!(changed(&block, &plain) > 95);
     println!("enciphered: {} % changed", changed(&block, &plain));
 

@@ -20,6 +20,21 @@ pub struct Drawn<const N: usize> {
     pub next: Drawer,
 }
 
+/// A drawer in bytes.
+#[repr(C)]
+#[derive(Clone, Copy, Debug, PartialEq, Eq)]
+pub struct Stored {
+    pub bytes: [u8; 44],
+}
+
+/// What loading a drawer answers: 0 or the tool's number 106, and the drawer.
+#[repr(C)]
+#[derive(Clone, Copy, Debug, PartialEq, Eq)]
+pub struct Loaded {
+    pub number: u32,
+    pub drawer: Drawer,
+}
+
 /// What a lookup answers: the document's number, the book (0 for this term's, 1
 /// for last term's), and where in it the key begins.
 #[repr(C)]
@@ -83,6 +98,52 @@ extern "C" {
         room: *mut u8,
         room_len: usize,
     ) -> u32;
+    pub fn vespruldo_seal_in_place(
+        key: *const u8,
+        key_len: usize,
+        nonce: *const u8,
+        nonce_len: usize,
+        data: *const u8,
+        data_len: usize,
+        buffer: *mut u8,
+        buffer_len: usize,
+        tag: *mut u8,
+        tag_len: usize,
+    ) -> u32;
+    pub fn vespruldo_open_in_place(
+        key: *const u8,
+        key_len: usize,
+        nonce: *const u8,
+        nonce_len: usize,
+        data: *const u8,
+        data_len: usize,
+        buffer: *mut u8,
+        buffer_len: usize,
+        tag: *const u8,
+        tag_len: usize,
+    ) -> u32;
+    pub fn vespruldo_card_seal(
+        key: *const u8,
+        key_len: usize,
+        nonce: *const u8,
+        nonce_len: usize,
+        data: *const u8,
+        data_len: usize,
+        text: *const u8,
+        text_len: usize,
+        room: *mut u8,
+        room_len: usize,
+    ) -> u32;
+    pub fn vespruldo_card_open(
+        key: *const u8,
+        key_len: usize,
+        data: *const u8,
+        data_len: usize,
+        card: *const u8,
+        card_len: usize,
+        room: *mut u8,
+        room_len: usize,
+    ) -> u32;
     pub fn vespruldo_gift_encipher(
         key: *const u8,
         key_len: usize,
@@ -131,6 +192,8 @@ extern "C" {
     pub fn vespruldo_drawer_start(reader: u32, count: u64) -> Drawer;
     pub fn vespruldo_drawer_draw(drawer: Drawer) -> Drawn<12>;
     pub fn vespruldo_drawer_iv(drawer: Drawer) -> Drawn<48>;
+    pub fn vespruldo_drawer_store(drawer: Drawer) -> Stored;
+    pub fn vespruldo_drawer_load(bytes: *const u8, bytes_len: usize) -> Loaded;
     pub fn vespruldo_key_find(
         this_term: *const u8,
         this_term_len: usize,
@@ -138,4 +201,7 @@ extern "C" {
         last_term_len: usize,
         class: u16,
     ) -> Found;
+    pub fn vespruldo_same(a: *const u8, a_len: usize, b: *const u8, b_len: usize) -> bool;
+    pub fn vespruldo_version() -> u32;
+    pub fn vespruldo_interface_1() -> u32;
 }

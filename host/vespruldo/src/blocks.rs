@@ -1,26 +1,26 @@
 //! Blocks and texts that are changed in place: LIONESS, GIFT-128 and ChaCha20,
 //! with keys, nonces and ivs whose lengths are in their types.
 
-use crate::bytes::{Iv, Key, Nonce, StreamKey, WideKey};
+use crate::bytes::{Iv, Key, Nonce, StreamKey, UsedIv, UsedNonce, WideKey};
 use crate::refusal::Refusal;
 use crate::sizes::GIFT_BLOCK_BYTES;
 use crate::slices;
 
-/// Enciphers `block` in place with LIONESS. The block is unchanged if this is
-/// refused.
+/// Enciphers `block` in place with LIONESS, and hands the iv back as a used one,
+/// to be stored with the block, for deciphering. The block is unchanged if this
+/// is refused.
 ///
 /// No two blocks may be enciphered under one key and iv: draw each iv from a
-/// [`Drawer`](crate::Drawer), and store it with the block, for deciphering.
+/// [`Drawer`](crate::Drawer). It is used up even if this is refused.
 ///
 /// ```
 /// use vespruldo::{lioness_decipher, lioness_encipher, Drawer, WideKey};
 ///
 /// let key = WideKey::from([1; 128]);
-/// let iv = Drawer::start(7, 0).iv()?;
 /// let plain = *b"forty bytes: a wide block is one of them";
 ///
 /// let mut block = plain;
-/// lioness_encipher(&key, &iv, &mut block)?;
+/// let iv = lioness_encipher(&key, Drawer::start(7, 0).draw_iv()?, &mut block)?;
 /// assert_ne!(block, plain);
 /// lioness_decipher(&key, &iv, &mut block)?;
 /// assert_eq!(block, plain);
@@ -30,8 +30,9 @@ use crate::slices;
 /// # Errors
 ///
 /// [`Refusal::TextLength`] if the block is not 33 to 1,048,608 bytes long.
-pub fn lioness_encipher(key: &WideKey, iv: &Iv, block: &mut [u8]) -> Result<(), Refusal> {
-    slices::lioness_encipher(key.as_bytes(), iv.as_bytes(), block)
+pub fn lioness_encipher(key: &WideKey, iv: Iv, block: &mut [u8]) -> Result<UsedIv, Refusal> {
+    slices::lioness_encipher(key.as_bytes(), iv.as_bytes(), block)?;
+    Ok(UsedIv::from(iv))
 }
 
 /// Deciphers `block` in place with LIONESS: undoes [`lioness_encipher`] under the
@@ -39,10 +40,10 @@ pub fn lioness_encipher(key: &WideKey, iv: &Iv, block: &mut [u8]) -> Result<(), 
 /// changed, the whole block comes out as noise, and nothing says so.
 ///
 /// ```
-/// use vespruldo::{lioness_decipher, Iv, Refusal, WideKey};
+/// use vespruldo::{lioness_decipher, Refusal, UsedIv, WideKey};
 ///
 /// let mut block = [7; 32];
-/// let refused = lioness_decipher(&WideKey::from([1; 128]), &Iv::from([2; 48]), &mut block);
+/// let refused = lioness_decipher(&WideKey::from([1; 128]), &UsedIv::from([2; 48]), &mut block);
 /// assert_eq!(refused, Err(Refusal::TextLength));
 /// assert_eq!(block, [7; 32]);
 /// ```
@@ -50,7 +51,7 @@ pub fn lioness_encipher(key: &WideKey, iv: &Iv, block: &mut [u8]) -> Result<(), 
 /// # Errors
 ///
 /// As for [`lioness_encipher`].
-pub fn lioness_decipher(key: &WideKey, iv: &Iv, block: &mut [u8]) -> Result<(), Refusal> {
+pub fn lioness_decipher(key: &WideKey, iv: &UsedIv, block: &mut [u8]) -> Result<(), Refusal> {
     slices::lioness_decipher(key.as_bytes(), iv.as_bytes(), block)
 }
 
@@ -94,23 +95,34 @@ fn never_refused(result: Result<(), Refusal>) {
     }
 }
 
-/// Adds ChaCha20's key stream to `text` in place, by exclusive or. The stream's
-/// blocks of 64 bytes are counted from `start`. Done twice, this gives the text
-/// back. The text is unchanged if this is refused.
+/// Adds ChaCha20's key stream to `text` in place, by exclusive or, and hands the
+/// nonce back as a used one. The stream's blocks of 64 bytes are counted from
+/// `start`. The text is unchanged if this is refused.
 ///
-/// No key, nonce and counter may be used for two texts. There is no tag: whoever
-/// flips a bit here flips it in the text.
+/// No key, nonce and counter may be used for two texts, so the nonce goes for
+/// good, even if this is refused:
+///
+/// ```compile_fail,E0382
+/// # use vespruldo::{chacha20, Drawer, StreamKey};
+/// # let (mut drawer, key) = (Drawer::start(7, 0), StreamKey::from([1; 32]));
+/// # let (mut anna, mut bert) = (*b"Anna, desk 4", *b"Bert, desk 9");
+/// let nonce = drawer.draw()?;
+/// chacha20(&key, nonce, 0, &mut anna)?;
+/// chacha20(&key, nonce, 0, &mut bert)?;
+/// # Ok::<(), vespruldo::Refusal>(())
+/// ```
+///
+/// [`chacha20_again`] gives the text back. There is no tag: whoever flips a bit
+/// here flips it in the text.
 ///
 /// ```
-/// use vespruldo::{chacha20, Drawer, StreamKey};
+/// use vespruldo::{chacha20, chacha20_again, Drawer, StreamKey};
 ///
 /// let key = StreamKey::from([1; 32]);
-/// let nonce = Drawer::start(7, 0).draw()?;
-///
 /// let mut text = *b"Anna, desk 4";
-/// chacha20(&key, &nonce, 0, &mut text)?;
+/// let nonce = chacha20(&key, Drawer::start(7, 0).draw()?, 0, &mut text)?;
 /// assert_ne!(text, *b"Anna, desk 4");
-/// chacha20(&key, &nonce, 0, &mut text)?;
+/// chacha20_again(&key, &nonce, 0, &mut text)?;
 /// assert_eq!(text, *b"Anna, desk 4");
 /// # Ok::<(), vespruldo::Refusal>(())
 /// ```
@@ -122,7 +134,45 @@ fn never_refused(result: Result<(), Refusal>) {
 /// needed exceeds 2^32.
 pub fn chacha20(
     key: &StreamKey,
-    nonce: &Nonce,
+    nonce: Nonce,
+    start: u32,
+    text: &mut [u8],
+) -> Result<UsedNonce, Refusal> {
+    let nonce = UsedNonce::from(nonce);
+    chacha20_again(key, &nonce, start, text)?;
+    Ok(nonce)
+}
+
+/// [`chacha20`] under a nonce that was used before. It gives the text back, from
+/// the counter that it began at, and goes on with the next part of a long text,
+/// from the counter after the last block of the part before:
+///
+/// ```
+/// use vespruldo::{chacha20, chacha20_again, Drawer, StreamKey};
+///
+/// let key = StreamKey::from([1; 32]);
+/// let song = [7; 150];
+///
+/// // In parts of whole blocks, but for the last one: 128 bytes are two of them.
+/// let mut in_parts = song;
+/// let (first, last) = in_parts.split_at_mut(128);
+/// let nonce = chacha20(&key, Drawer::start(7, 0).draw()?, 0, first)?;
+/// chacha20_again(&key, &nonce, 2, last)?;
+///
+/// chacha20_again(&key, &nonce, 0, &mut in_parts)?;
+/// assert_eq!(in_parts, song);
+/// # Ok::<(), vespruldo::Refusal>(())
+/// ```
+///
+/// Which counters have been used is for the caller to know, and no type stops a
+/// second text under an old one.
+///
+/// # Errors
+///
+/// As for [`chacha20`].
+pub fn chacha20_again(
+    key: &StreamKey,
+    nonce: &UsedNonce,
     start: u32,
     text: &mut [u8],
 ) -> Result<(), Refusal> {
@@ -159,24 +209,37 @@ mod tests {
 
     #[test]
     fn lengths_are_the_documents() {
-        let (key, iv) = (WideKey::from([1; 128]), Iv::from([2; 48]));
+        let (key, iv) = (WideKey::from([1; 128]), [2; 48]);
         let allowed = [LIONESS_BLOCK_MIN, LIONESS_BLOCK_MAX];
         let refused = [0, LIONESS_BLOCK_MIN - 1, LIONESS_BLOCK_MAX + 1];
-        let encipher: Tried = &|block| lioness_encipher(&key, &iv, block);
-        let decipher: Tried = &|block| lioness_decipher(&key, &iv, block);
+        let encipher: Tried = &|block| {
+            let used = lioness_encipher(&key, Iv::from(iv), block)?;
+            assert_eq!(used, UsedIv::from(iv));
+            Ok(())
+        };
+        let decipher: Tried = &|block| lioness_decipher(&key, &UsedIv::from(iv), block);
         try_lens(encipher, &allowed, &refused);
         try_lens(decipher, &allowed, &refused);
 
-        let (key, nonce) = (StreamKey::from([1; 32]), Nonce::from([2; 12]));
-        let stream: Tried = &|text| chacha20(&key, &nonce, 0, text);
+        let stream: Tried = &|text| stream(0, text);
         try_lens(stream, &[16, TEXT_MAX], &[TEXT_MAX + 1]);
         assert_eq!(stream(&mut []), Ok(()));
     }
 
+    /// The key stream from this counter on, by a nonce and again by the used one.
+    fn stream(start: u32, text: &mut [u8]) -> Result<(), Refusal> {
+        let key = StreamKey::from([1; 32]);
+        let mut again = text.to_vec();
+        let refused = chacha20_again(&key, &UsedNonce::from([2; 12]), start, &mut again);
+        let used = chacha20(&key, Nonce::from([2; 12]), start, text);
+        assert_eq!(used, refused.map(|()| UsedNonce::from([2; 12])));
+        assert!(again == text, "start {start}");
+        refused
+    }
+
     #[test]
     fn counter_ends_where_the_document_says() {
-        let (key, nonce) = (StreamKey::from([1; 32]), Nonce::from([2; 12]));
-        let at_the_end = |text: &mut [u8]| chacha20(&key, &nonce, u32::MAX, text);
+        let at_the_end = |text: &mut [u8]| stream(u32::MAX, text);
         assert_eq!(at_the_end(&mut [7; 64]), Ok(()));
         let mut text = [7; 65];
         assert_eq!(at_the_end(&mut text), Err(Refusal::StreamTooLong));

@@ -1,8 +1,8 @@
 //! Keys, nonces, ivs and tags: types of one length each.
 
-use std::fmt;
-use std::ptr;
-use std::sync::atomic::{compiler_fence, Ordering};
+use core::fmt;
+use core::ptr;
+use core::sync::atomic::{compiler_fence, Ordering};
 
 use crate::refusal::Refusal;
 use crate::sizes::{
@@ -100,24 +100,61 @@ macro_rules! secret {
     };
 }
 
-/// Bytes that may be read by anybody. `Debug` prints them in hex.
+/// Bytes that may be read by anybody. `Display` prints them in hex, and `Debug`
+/// with the type's name around them.
 macro_rules! public {
     ($(#[$about:meta])* $name:ident, $len:expr, $refusal:ident) => {
         bytes! { $(#[$about])* $name, $len, $refusal }
 
         impl $name {
-            /// The bytes as an array, to be stored.
+            /// The bytes as an array.
             #[must_use]
             pub fn into_bytes(self) -> [u8; $len] {
                 self.0
             }
         }
 
+        impl AsRef<[u8]> for $name {
+            fn as_ref(&self) -> &[u8] {
+                &self.0
+            }
+        }
+
+        /// The bytes in hex, in lower case.
+        impl fmt::Display for $name {
+            fn fmt(&self, f: &mut fmt::Formatter<'_>) -> fmt::Result {
+                self.0.iter().try_for_each(|byte| write!(f, "{byte:02x}"))
+            }
+        }
+
         impl fmt::Debug for $name {
             fn fmt(&self, f: &mut fmt::Formatter<'_>) -> fmt::Result {
-                f.write_str(concat!(stringify!($name), "("))?;
-                self.0.iter().try_for_each(|byte| write!(f, "{byte:02x}"))?;
-                f.write_str(")")
+                write!(f, concat!(stringify!($name), "({})"), self)
+            }
+        }
+    };
+}
+
+/// A number that is used once, and the type of the same bytes when they have
+/// been used.
+macro_rules! used_once {
+    (
+        $(#[$about:meta])* $name:ident;
+        $(#[$about_used:meta])* $used:ident;
+        $len:expr
+    ) => {
+        public! { $(#[$about])* #[derive(PartialEq, Eq, Hash)] $name, $len, NonceLength }
+
+        public! {
+            $(#[$about_used])*
+            #[derive(Clone, PartialEq, Eq, Hash)]
+            $used, $len, NonceLength
+        }
+
+        /// What is used stays so: there is no way back.
+        impl From<$name> for $used {
+            fn from(fresh: $name) -> $used {
+                $used(fresh.0)
             }
         }
     };
@@ -159,48 +196,86 @@ secret! {
     WideKey, LIONESS_KEY_BYTES
 }
 
-public! {
-    /// A nonce for sealing, opening and ChaCha20: 12 bytes, best drawn from a
-    /// [`Drawer`](crate::Drawer).
+used_once! {
+    /// A fresh nonce for one sealing, or for one key stream of ChaCha20: 12 bytes,
+    /// best drawn from a [`Drawer`](crate::Drawer).
     ///
     /// No two texts may be sealed under one key and nonce. So a nonce cannot be
     /// copied or cloned, and [`seal`](crate::seal) takes it for good:
     ///
     /// ```compile_fail,E0382
-    /// # let (mut drawer, key) = (vespruldo::Drawer::start(7, 0), vespruldo::Key::from([1; 16]));
+    /// # use vespruldo::{seal, Data, Drawer, Key};
+    /// # let (mut drawer, key) = (Drawer::start(7, 0), Key::from([1; 16]));
     /// let nonce = drawer.draw()?;
-    /// let anna = vespruldo::seal(&key, nonce, b"class 7", b"Anna, desk 4")?;
-    /// let bert = vespruldo::seal(&key, nonce, b"class 7", b"Bert, desk 9")?;
+    /// let anna = seal(&key, nonce, Data(b"class 7"), b"Anna, desk 4")?;
+    /// let bert = seal(&key, nonce, Data(b"class 7"), b"Bert, desk 9")?;
     /// # Ok::<(), vespruldo::Refusal>(())
     /// ```
     ///
-    /// This stops a slip, not intent: a nonce taken back out of what was sealed,
-    /// or made from bytes that were stored, is for opening only.
+    /// So does [`seal_in_place`](crate::seal_in_place), and so does
+    /// [`chacha20`](crate::chacha20). What they hand back is a [`UsedNonce`],
+    /// which seals nothing:
+    ///
+    /// ```compile_fail,E0308
+    /// # use vespruldo::{seal, Data, Drawer, Key};
+    /// # let (mut drawer, key) = (Drawer::start(7, 0), Key::from([1; 16]));
+    /// let anna = seal(&key, drawer.draw()?, Data(b"class 7"), b"Anna, desk 4")?;
+    /// let bert = seal(&key, anna.nonce, Data(b"class 7"), b"Bert, desk 9")?;
+    /// # Ok::<(), vespruldo::Refusal>(())
+    /// ```
+    ///
+    /// This stops a slip, not intent: `Nonce::from` takes any bytes for fresh
+    /// ones. Whoever calls it says that they were never used under that key.
     ///
     /// ```
-    /// use vespruldo::{Drawer, Nonce, Refusal};
+    /// use vespruldo::{Drawer, Nonce};
     ///
-    /// let stored: [u8; 12] = Drawer::start(7, 258).draw()?.into_bytes();
-    /// let nonce = Nonce::from(stored);
-    /// assert_eq!(format!("{nonce:?}"), "Nonce(070000000201000000000000)");
-    /// assert_eq!(Nonce::try_from(&stored[1..]), Err(Refusal::NonceLength));
+    /// let nonce = Nonce::from([7, 0, 0, 0, 2, 1, 0, 0, 0, 0, 0, 0]);
+    /// assert_eq!(nonce, Drawer::start(7, 258).draw()?);
+    /// assert_eq!(nonce.to_string(), "070000000201000000000000");
+    /// # Ok::<(), vespruldo::Refusal>(())
+    /// ```
+    Nonce;
+    /// The nonce that something was sealed with: 12 bytes, for opening only, and
+    /// for [`chacha20_again`](crate::chacha20_again). It is public, and may be
+    /// copied, compared and stored.
+    ///
+    /// ```
+    /// use vespruldo::{Refusal, UsedNonce};
+    ///
+    /// let stored = [7, 0, 0, 0, 2, 1, 0, 0, 0, 0, 0, 0];
+    /// assert_eq!(UsedNonce::try_from(&stored[..])?, UsedNonce::from(stored));
+    /// assert_eq!(UsedNonce::try_from(&stored[1..]), Err(Refusal::NonceLength));
     /// # Ok::<(), Refusal>(())
     /// ```
-    #[derive(PartialEq, Eq, Hash)]
-    Nonce, NONCE_BYTES, NonceLength
+    UsedNonce;
+    NONCE_BYTES
 }
 
-public! {
-    /// An iv for LIONESS: 48 bytes, best drawn from a [`Drawer`](crate::Drawer).
-    /// No two blocks may be enciphered under one key and iv, so it cannot be
-    /// copied or cloned:
+used_once! {
+    /// A fresh iv for one wide block of LIONESS: 48 bytes, best drawn from a
+    /// [`Drawer`](crate::Drawer).
     ///
-    /// ```compile_fail,E0599
-    /// let iv = vespruldo::Iv::from([2; 48]);
-    /// let copy = iv.clone();
+    /// No two blocks may be enciphered under one key and iv. So an iv cannot be
+    /// copied or cloned, and [`lioness_encipher`](crate::lioness_encipher) takes
+    /// it for good:
+    ///
+    /// ```compile_fail,E0382
+    /// # use vespruldo::{lioness_encipher, Drawer, WideKey};
+    /// # let (mut drawer, key) = (Drawer::start(7, 0), WideKey::from([1; 128]));
+    /// # let (mut verse, mut chorus) = ([1; 40], [2; 40]);
+    /// let iv = drawer.draw_iv()?;
+    /// lioness_encipher(&key, iv, &mut verse)?;
+    /// lioness_encipher(&key, iv, &mut chorus)?;
+    /// # Ok::<(), vespruldo::Refusal>(())
     /// ```
-    #[derive(PartialEq, Eq, Hash)]
-    Iv, LIONESS_IV_BYTES, NonceLength
+    ///
+    /// This stops a slip, not intent: `Iv::from` takes any bytes for fresh ones.
+    Iv;
+    /// The iv that a block was enciphered with: 48 bytes, for deciphering only. It
+    /// is public, and may be copied, compared and stored.
+    UsedIv;
+    LIONESS_IV_BYTES
 }
 
 public! {
@@ -214,6 +289,7 @@ public! {
     ///     tags[0] == tags[1]
     /// }
     /// ```
+    #[derive(Clone)]
     Tag, TAG_BYTES, TagLength
 }
 
@@ -263,7 +339,7 @@ mod tests {
     }
 
     #[test]
-    fn debug_shows_what_is_public_and_nothing_else() {
+    fn debug_shows_nothing_of_a_secret() {
         let secrets: [(&dyn fmt::Debug, &str); 3] = [
             (&Key::from([0xab; 16]), "Key(..)"),
             (&StreamKey::from([0xab; 32]), "StreamKey(..)"),
@@ -274,12 +350,29 @@ mod tests {
             assert_eq!(format!("{secret:#?}"), shown);
             assert_eq!(format!("{secret:02x?}"), shown);
         }
+    }
 
-        let in_hex = |name, len| format!("{name}({})", "0b".repeat(len));
-        let shown = |public: &dyn fmt::Debug| format!("{public:?}");
-        assert_eq!(shown(&Nonce::from([11; 12])), in_hex("Nonce", 12));
-        assert_eq!(shown(&Iv::from([11; 48])), in_hex("Iv", 48));
-        assert_eq!(shown(&Tag::from([11; 16])), in_hex("Tag", 16));
+    /// Of `N` bytes 0x0b: `Display`, `Debug` and `AsRef`.
+    fn shows_its_bytes<T, const N: usize>(name: &str)
+    where
+        T: From<[u8; N]> + AsRef<[u8]> + fmt::Display + fmt::Debug,
+    {
+        let public = T::from([11; N]);
+        let in_hex = "0b".repeat(N);
+        assert_eq!(public.as_ref(), [11; N]);
+        assert_eq!(public.to_string(), in_hex);
+        assert_eq!(format!("{public:?}"), format!("{name}({in_hex})"));
+    }
+
+    #[test]
+    fn what_is_public_is_shown_in_hex() {
+        shows_its_bytes::<Nonce, 12>("Nonce");
+        shows_its_bytes::<UsedNonce, 12>("UsedNonce");
+        shows_its_bytes::<Iv, 48>("Iv");
+        shows_its_bytes::<UsedIv, 48>("UsedIv");
+        shows_its_bytes::<Tag, 16>("Tag");
+        let tag = Tag::from(std::array::from_fn(|i| 17 * i as u8));
+        assert_eq!(tag.to_string(), "00112233445566778899aabbccddeeff");
     }
 
     /// Compiles only if none of the types has the trait: `_` could not be
@@ -300,7 +393,11 @@ mod tests {
         none_has!(Clone: Key StreamKey WideKey Nonce Iv);
         none_has!(PartialEq: Key StreamKey WideKey Tag);
         none_has!(fmt::Display: Key StreamKey WideKey);
-        none_has!(Default: Key StreamKey WideKey Nonce Iv Tag);
+        none_has!(AsRef<[u8]>: Key StreamKey WideKey);
+        none_has!(Default: Key StreamKey WideKey Nonce UsedNonce Iv UsedIv Tag);
+        // No way back from a number that was used.
+        none_has!(From<UsedNonce>: Nonce);
+        none_has!(From<UsedIv>: Iv);
     }
 
     /// Of slices of 0 to 200 bytes, those of `N` are taken as they are and all
@@ -324,7 +421,9 @@ mod tests {
         takes_one_length(StreamKey::as_bytes, Refusal::KeyLength);
         takes_one_length(WideKey::as_bytes, Refusal::KeyLength);
         takes_one_length(Nonce::as_bytes, Refusal::NonceLength);
+        takes_one_length(UsedNonce::as_bytes, Refusal::NonceLength);
         takes_one_length(Iv::as_bytes, Refusal::NonceLength);
+        takes_one_length(UsedIv::as_bytes, Refusal::NonceLength);
         takes_one_length(Tag::as_bytes, Refusal::TagLength);
     }
 
@@ -334,5 +433,8 @@ mod tests {
         assert_eq!(Iv::from(bytes).into_bytes(), bytes);
         assert_eq!(Iv::from(bytes), Iv::from(bytes));
         assert_ne!(Iv::from(bytes), Iv::from([0; 48]));
+        assert_eq!(UsedIv::from(Iv::from(bytes)).into_bytes(), bytes);
+        let nonce = [7, 0, 0, 0, 2, 1, 0, 0, 0, 0, 0, 0];
+        assert_eq!(UsedNonce::from(Nonce::from(nonce)).into_bytes(), nonce);
     }
 }

@@ -1,21 +1,112 @@
-//! Sealing and opening with types of fixed lengths.
+//! Sealing and opening with types of fixed lengths, and cards as bytes. What is
+//! answered is allocated.
 
-use crate::bytes::{Key, Nonce, Tag};
+use alloc::vec;
+use alloc::vec::Vec;
+
+use crate::bytes::{Key, Nonce, Tag, UsedNonce};
+use crate::data::Data;
 use crate::refusal::Refusal;
-use crate::sizes::{TAG_BYTES, TEXT_MAX};
+use crate::sizes::{NONCE_BYTES, TAG_BYTES, TEXT_MAX};
 use crate::slices;
 
 /// What was sealed: all that opening needs, apart from the key and the associated
-/// data. The parts stand in the order in which they are stored.
-#[derive(Debug)]
+/// data. All of it is public.
+#[derive(Clone, Debug)]
 pub struct Sealed {
-    /// The nonce that it was sealed with. It is used up: never seal with it
-    /// again.
-    pub nonce: Nonce,
+    /// The nonce that it was sealed with.
+    pub nonce: UsedNonce,
     /// As many bytes as the text has.
     pub ciphertext: Vec<u8>,
     /// The tag over nonce, associated data and text.
     pub tag: Tag,
+}
+
+impl Sealed {
+    /// The card to store, 30 bytes longer than the text: the nonce in 12 bytes,
+    /// the length of the ciphertext in 2, little-endian, the ciphertext, and the
+    /// tag in 16. It is the card that [`slices::card_seal`] makes and that the
+    /// tool `cards` makes and opens.
+    ///
+    /// ```
+    /// use vespruldo::{seal, Data, Drawer, Key, Sealed};
+    ///
+    /// let key = Key::from([1; 16]);
+    /// let sealed = seal(&key, Drawer::start(7, 0).draw()?, Data(b"class 7"), b"Anna, desk 4")?;
+    /// let stored = sealed.to_bytes()?;
+    /// assert_eq!(stored.len(), 12 + 30);
+    /// assert_eq!(stored[..12], *sealed.nonce.as_bytes());
+    /// assert_eq!(stored[12..14], [12, 0]);
+    /// assert_eq!(stored[14..26], sealed.ciphertext);
+    /// assert_eq!(stored[26..], *sealed.tag.as_bytes());
+    /// # Ok::<(), vespruldo::Refusal>(())
+    /// ```
+    ///
+    /// # Errors
+    ///
+    /// [`Refusal::TextLength`] if the ciphertext is longer than 65,535 bytes,
+    /// the most that a card's two bytes can say. ([`seal`] takes more.)
+    pub fn to_bytes(&self) -> Result<Vec<u8>, Refusal> {
+        let length = u16::try_from(self.ciphertext.len()).map_err(|_| Refusal::TextLength)?;
+        let parts: [&[u8]; 4] = [
+            self.nonce.as_ref(),
+            &length.to_le_bytes(),
+            &self.ciphertext,
+            self.tag.as_ref(),
+        ];
+        Ok(parts.concat())
+    }
+
+    /// What a card holds that [`to_bytes`](Sealed::to_bytes) or the tool `cards`
+    /// made. Whether it is as it was at sealing is for [`open`] to say.
+    ///
+    /// ```
+    /// use vespruldo::{open_short, seal_short, Drawer, Key, Refusal, Sealed};
+    ///
+    /// let key = Key::from([1; 16]);
+    /// let stored = seal_short(&key, Drawer::start(7, 0).draw()?, b"Anna, desk 4")?.to_bytes()?;
+    /// assert_eq!(open_short(&key, &Sealed::from_bytes(&stored)?)?, b"Anna, desk 4");
+    ///
+    /// let refused = Sealed::from_bytes(&stored[..41]);
+    /// assert_eq!(refused.err(), Some(Refusal::CutShort));
+    /// # Ok::<(), Refusal>(())
+    /// ```
+    ///
+    /// # Errors
+    ///
+    /// The first of these that applies: [`Refusal::CutShort`] if there are fewer
+    /// bytes than the length that the card says and 30, [`Refusal::LeftOver`] if
+    /// there are more.
+    pub fn from_bytes(bytes: &[u8]) -> Result<Sealed, Refusal> {
+        let (nonce, rest) = front::<NONCE_BYTES>(bytes)?;
+        let (length, rest) = front(rest)?;
+        let length = usize::from(u16::from_le_bytes(length));
+        let (ciphertext, rest) = rest.split_at_checked(length).ok_or(Refusal::CutShort)?;
+        let (tag, rest) = front::<TAG_BYTES>(rest)?;
+        if !rest.is_empty() {
+            return Err(Refusal::LeftOver);
+        }
+        Ok(Sealed {
+            nonce: UsedNonce::from(nonce),
+            ciphertext: ciphertext.to_vec(),
+            tag: Tag::from(tag),
+        })
+    }
+}
+
+impl TryFrom<&[u8]> for Sealed {
+    type Error = Refusal;
+
+    /// [`Sealed::from_bytes`].
+    fn try_from(bytes: &[u8]) -> Result<Sealed, Refusal> {
+        Sealed::from_bytes(bytes)
+    }
+}
+
+/// The first `N` bytes of a card's rest, and what follows them.
+fn front<const N: usize>(rest: &[u8]) -> Result<([u8; N], &[u8]), Refusal> {
+    let (front, rest) = rest.split_first_chunk().ok_or(Refusal::CutShort)?;
+    Ok((*front, rest))
 }
 
 /// Room for a text or a ciphertext of as many bytes as `like`, but never more
@@ -37,7 +128,7 @@ fn sealed(
     let mut tag = [0; TAG_BYTES];
     form(nonce.as_bytes(), &mut ciphertext, &mut tag)?;
     Ok(Sealed {
-        nonce,
+        nonce: UsedNonce::from(nonce),
         ciphertext,
         tag: Tag::from(tag),
     })
@@ -51,28 +142,29 @@ fn sealed(
 /// [`Drawer`](crate::Drawer).
 ///
 /// ```
-/// use vespruldo::{open, seal, Drawer, Key};
+/// use vespruldo::{open, seal, Data, Drawer, Key};
 ///
 /// let key = Key::from([1; 16]);
 /// let mut drawer = Drawer::start(7, 0);
 ///
-/// let sealed = seal(&key, drawer.draw()?, b"class 7", b"Anna, desk 4")?;
+/// let sealed = seal(&key, drawer.draw()?, Data(b"class 7"), b"Anna, desk 4")?;
 /// assert_eq!(sealed.ciphertext.len(), 12);
 /// assert_ne!(sealed.ciphertext, b"Anna, desk 4");
-/// assert_eq!(open(&key, b"class 7", &sealed)?, b"Anna, desk 4");
+/// assert_eq!(open(&key, Data(b"class 7"), &sealed)?, b"Anna, desk 4");
 /// # Ok::<(), vespruldo::Refusal>(())
 /// ```
 ///
-/// The ciphertext is allocated; [`slices::seal`] writes it to room that is lent.
+/// The ciphertext is allocated; [`slices::seal`] writes it to room that is lent,
+/// and [`seal_in_place`](crate::seal_in_place) to the text's own place.
 ///
 /// # Errors
 ///
 /// The first of these that applies: [`Refusal::DataLength`] if the associated
 /// data is longer than 65,536 bytes, [`Refusal::TextLength`] if the text is
 /// longer than 1,048,576 bytes.
-pub fn seal(key: &Key, nonce: Nonce, data: &[u8], text: &[u8]) -> Result<Sealed, Refusal> {
+pub fn seal(key: &Key, nonce: Nonce, data: Data, text: &[u8]) -> Result<Sealed, Refusal> {
     sealed(nonce, text, |nonce, room, tag| {
-        slices::seal(key.as_bytes(), nonce, data, text, room, tag)
+        slices::seal(key.as_bytes(), nonce, data.0, text, room, tag)
     })
 }
 
@@ -81,31 +173,32 @@ pub fn seal(key: &Key, nonce: Nonce, data: &[u8], text: &[u8]) -> Result<Sealed,
 /// left anywhere: the archive has overwritten with zeros what it had deciphered.
 ///
 /// ```
-/// use vespruldo::{open, seal, Drawer, Key, Refusal};
+/// use vespruldo::{open, seal, Data, Drawer, Key, Refusal};
 ///
 /// let key = Key::from([1; 16]);
 /// let mut drawer = Drawer::start(7, 0);
-/// let mut sealed = seal(&key, drawer.draw()?, b"class 7", b"Anna, desk 4")?;
+/// let mut sealed = seal(&key, drawer.draw()?, Data(b"class 7"), b"Anna, desk 4")?;
 ///
-/// assert_eq!(open(&key, b"class 7", &sealed)?, b"Anna, desk 4");
-/// assert_eq!(open(&key, b"class 8", &sealed), Err(Refusal::WrongTag));
+/// assert_eq!(open(&key, Data(b"class 7"), &sealed)?, b"Anna, desk 4");
+/// assert_eq!(open(&key, Data(b"class 8"), &sealed), Err(Refusal::WrongTag));
 /// sealed.ciphertext[11] ^= 1;
-/// assert_eq!(open(&key, b"class 7", &sealed), Err(Refusal::WrongTag));
+/// assert_eq!(open(&key, Data(b"class 7"), &sealed), Err(Refusal::WrongTag));
 /// # Ok::<(), Refusal>(())
 /// ```
 ///
-/// The text is allocated; [`slices::open`] writes it to room that is lent.
+/// The text is allocated; [`slices::open`] writes it to room that is lent, and
+/// [`open_in_place`](crate::open_in_place) to the ciphertext's own place.
 ///
 /// # Errors
 ///
 /// As for [`seal`], with the ciphertext in place of the text, and last
 /// [`Refusal::WrongTag`] if the tag is not the recomputed one.
-pub fn open(key: &Key, data: &[u8], sealed: &Sealed) -> Result<Vec<u8>, Refusal> {
+pub fn open(key: &Key, data: Data, sealed: &Sealed) -> Result<Vec<u8>, Refusal> {
     let mut text = room_for(&sealed.ciphertext);
     slices::open(
         key.as_bytes(),
         sealed.nonce.as_bytes(),
-        data,
+        data.0,
         &sealed.ciphertext,
         sealed.tag.as_bytes(),
         &mut text,
@@ -129,12 +222,12 @@ pub fn seal_short(key: &Key, nonce: Nonce, text: &[u8]) -> Result<Sealed, Refusa
 /// [`seal`] with `data` empty.
 ///
 /// ```
-/// use vespruldo::{open, open_short, seal_short, Drawer, Key};
+/// use vespruldo::{open, open_short, seal_short, Data, Drawer, Key};
 ///
 /// let key = Key::from([1; 16]);
 /// let sealed = seal_short(&key, Drawer::start(7, 0).draw()?, b"Anna, desk 4")?;
 /// assert_eq!(open_short(&key, &sealed)?, b"Anna, desk 4");
-/// assert_eq!(open(&key, b"", &sealed)?, b"Anna, desk 4");
+/// assert_eq!(open(&key, Data(b""), &sealed)?, b"Anna, desk 4");
 /// # Ok::<(), vespruldo::Refusal>(())
 /// ```
 ///
@@ -169,20 +262,22 @@ mod tests {
     /// Something sealed that opening must look at, with a ciphertext of its own.
     fn made_up(ciphertext: Vec<u8>) -> Sealed {
         Sealed {
-            nonce: nonce(),
+            nonce: UsedNonce::from(nonce()),
             ciphertext,
             tag: Tag::from([3; 16]),
         }
     }
 
+    const CLASS: Data = Data(b"class 7");
+
     #[test]
     fn texts_of_every_kind_of_length_come_back() {
         for len in [0, 1, 15, 16, 17, 4096, 4097, TEXT_MAX] {
             let text = vec![5; len];
-            let sealed = seal(&key(), nonce(), b"class 7", &text).expect("sealed");
-            assert_eq!(sealed.nonce, nonce());
+            let sealed = seal(&key(), nonce(), CLASS, &text).expect("sealed");
+            assert_eq!(sealed.nonce, UsedNonce::from(nonce()));
             assert_eq!(sealed.ciphertext.len(), len);
-            let opened = open(&key(), b"class 7", &sealed).expect("opened");
+            let opened = open(&key(), CLASS, &sealed).expect("opened");
             assert!(opened == text, "{len}");
         }
     }
@@ -192,7 +287,7 @@ mod tests {
         let text = b"Anna, desk 4";
         let (mut room, mut tag) = ([0; 12], [0; 16]);
         slices::seal(&[1; 16], &[2; 12], b"class 7", text, &mut room, &mut tag).expect("sealed");
-        let sealed = seal(&key(), nonce(), b"class 7", text).expect("sealed");
+        let sealed = seal(&key(), nonce(), CLASS, text).expect("sealed");
         assert_eq!(sealed.ciphertext, room);
         assert_eq!(sealed.tag.as_bytes(), &tag);
 
@@ -207,17 +302,17 @@ mod tests {
     #[test]
     fn lengths_beyond_the_documents_are_refused() {
         let long = vec![0; TEXT_MAX + 1];
-        let data = &long[..=DATA_MAX];
+        let data = Data(&long[..=DATA_MAX]);
         let sealed = |data, text| seal(&key(), nonce(), data, text).err();
-        assert_eq!(sealed(&[], &long), Some(Refusal::TextLength));
+        assert_eq!(sealed(Data(&[]), &long), Some(Refusal::TextLength));
         assert_eq!(sealed(data, &[]), Some(Refusal::DataLength));
         assert_eq!(sealed(data, &long), Some(Refusal::DataLength));
-        assert_eq!(sealed(&long[..DATA_MAX], &[]), None);
+        assert_eq!(sealed(Data(&long[..DATA_MAX]), &[]), None);
         let short = seal_short(&key(), nonce(), &long);
         assert_eq!(short.err(), Some(Refusal::TextLength));
 
         let (empty, long) = (made_up(vec![]), made_up(long.clone()));
-        assert_eq!(open(&key(), &[], &long), Err(Refusal::TextLength));
+        assert_eq!(open(&key(), Data(&[]), &long), Err(Refusal::TextLength));
         assert_eq!(open(&key(), data, &empty), Err(Refusal::DataLength));
         assert_eq!(open(&key(), data, &long), Err(Refusal::DataLength));
         assert_eq!(open_short(&key(), &long), Err(Refusal::TextLength));
@@ -235,11 +330,11 @@ mod tests {
     fn whatever_is_damaged_is_refused() {
         let text = b"Anna, desk 4, by the window";
         let parts = || {
-            let sealed = seal(&key(), nonce(), b"class 7", text).expect("sealed");
+            let sealed = seal(&key(), nonce(), CLASS, text).expect("sealed");
             let tag = sealed.tag.into_bytes().to_vec();
             [
                 sealed.nonce.into_bytes().to_vec(),
-                b"class 7".to_vec(),
+                CLASS.0.to_vec(),
                 sealed.ciphertext,
                 tag,
                 vec![1; 16],
@@ -251,7 +346,7 @@ mod tests {
                 ciphertext,
                 tag: tag[..].try_into()?,
             };
-            open(&Key::try_from(&key[..])?, &data, &sealed)
+            open(&Key::try_from(&key[..])?, Data(&data), &sealed)
         };
         assert_eq!(opened(parts()).as_deref(), Ok(&text[..]));
         for part in 0..5 {

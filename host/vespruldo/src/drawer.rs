@@ -1,10 +1,12 @@
 //! The drawer of nonces.
 
 use crate::archive::{
-    self, vespruldo_drawer_draw, vespruldo_drawer_iv, vespruldo_drawer_start, Drawn,
+    self, vespruldo_drawer_draw, vespruldo_drawer_iv, vespruldo_drawer_load,
+    vespruldo_drawer_start, vespruldo_drawer_store, Drawn,
 };
 use crate::bytes::{Iv, Nonce};
 use crate::refusal::{result_of, Refusal};
+use crate::sizes::DRAWER_BYTES;
 
 /// A drawer of nonces: a reader number and a count, both given at its start.
 /// Each draw hands out the two in 12 bytes, and the count grows by one. What is
@@ -21,31 +23,32 @@ use crate::refusal::{result_of, Refusal};
 /// A nonce is drawn for each text that is sealed:
 ///
 /// ```
-/// use vespruldo::{open, seal, Drawer, Key};
+/// use vespruldo::{open, seal, Data, Drawer, Key};
 ///
 /// let key = Key::from([1; 16]);
 /// let mut drawer = Drawer::start(7, 0);
 /// for text in [b"Anna", b"Bert"] {
-///     let sealed = seal(&key, drawer.draw()?, b"class 7", text)?;
-///     assert_eq!(open(&key, b"class 7", &sealed)?, text);
+///     let sealed = seal(&key, drawer.draw()?, Data(b"class 7"), text)?;
+///     assert_eq!(open(&key, Data(b"class 7"), &sealed)?, text);
 /// }
 /// assert_eq!(drawer.count(), 2);
 /// # Ok::<(), vespruldo::Refusal>(())
 /// ```
 ///
 /// Nothing is claimed across starts. A drawer that is started again from an
-/// older count repeats what was drawn since:
+/// older state repeats what was drawn since. So its bytes are stored after each
+/// draw, where a restart finds them, before the number drawn is used:
 ///
 /// ```
 /// use vespruldo::Drawer;
 ///
 /// let mut drawer = Drawer::start(7, 0);
-/// let older = drawer.count();
+/// let older = drawer.to_bytes();
 /// let nonce = drawer.draw()?;
-/// let newer = drawer.count();
+/// let newer = drawer.to_bytes();
 ///
-/// assert_eq!(Drawer::start(7, older).draw()?, nonce);
-/// assert_ne!(Drawer::start(7, newer).draw()?, nonce);
+/// assert_eq!(Drawer::from_bytes(&older)?.draw()?, nonce);
+/// assert_ne!(Drawer::from_bytes(&newer)?.draw()?, nonce);
 /// # Ok::<(), vespruldo::Refusal>(())
 /// ```
 #[derive(Debug, PartialEq, Eq)]
@@ -79,7 +82,7 @@ impl Drawer {
     /// let mut drawer = Drawer::start(7, u64::MAX - 1);
     /// assert!(drawer.draw().is_ok());
     /// assert_eq!(drawer.draw(), Err(Refusal::DrawerSpent));
-    /// assert_eq!(drawer.iv(), Err(Refusal::DrawerSpent));
+    /// assert_eq!(drawer.draw_iv(), Err(Refusal::DrawerSpent));
     /// assert_eq!(drawer, Drawer::start(7, u64::MAX));
     /// ```
     ///
@@ -98,7 +101,7 @@ impl Drawer {
     /// use vespruldo::Drawer;
     ///
     /// let mut drawer = Drawer::start(7, 258);
-    /// let iv = drawer.iv()?.into_bytes();
+    /// let iv = drawer.draw_iv()?.into_bytes();
     /// assert_eq!(drawer.count(), 259);
     ///
     /// let nonce = Drawer::start(7, 258).draw()?.into_bytes();
@@ -109,7 +112,7 @@ impl Drawer {
     /// # Errors
     ///
     /// As for [`Drawer::draw`].
-    pub fn iv(&mut self) -> Result<Iv, Refusal> {
+    pub fn draw_iv(&mut self) -> Result<Iv, Refusal> {
         // SAFETY: see the crate's root.
         self.hand_over(|drawer| unsafe { vespruldo_drawer_iv(drawer) })
             .map(Iv::from)
@@ -121,12 +124,54 @@ impl Drawer {
         self.0.reader
     }
 
-    /// The count of the next draw. Store it after each draw, before the number
+    /// The count of the next draw. Whoever stores the two numbers and not the
+    /// [bytes](Drawer::to_bytes) stores it after each draw, before the number
     /// drawn is used: a restart that goes on from it never draws that number
     /// again.
     #[must_use]
     pub fn count(&self) -> u64 {
         self.0.count
+    }
+
+    /// The drawer in bytes, as the tool `cards` keeps it in a file: the reader
+    /// number in 4 bytes and the count in 8, both little-endian, then the 32-byte
+    /// BLAKE2b digest (no key) of these 12, by which damage is seen.
+    ///
+    /// Store these after each draw, before the number drawn is used: a restart
+    /// that goes on from them never draws that number again. Never go on from
+    /// older ones, as those of a backup are.
+    #[must_use]
+    pub fn to_bytes(&self) -> [u8; DRAWER_BYTES] {
+        // SAFETY: see the crate's root.
+        unsafe { vespruldo_drawer_store(self.0) }.bytes
+    }
+
+    /// The drawer that these bytes are, which [`to_bytes`](Drawer::to_bytes) or
+    /// the tool `cards` made.
+    ///
+    /// ```
+    /// use vespruldo::{Drawer, Refusal};
+    ///
+    /// let mut drawer = Drawer::start(7, 0);
+    /// let nonce = drawer.draw()?;
+    /// let mut stored = drawer.to_bytes(); // written to the reader's memory here
+    /// // Now the nonce may be used.
+    ///
+    /// assert_eq!(Drawer::from_bytes(&stored)?, drawer);
+    /// stored[4] ^= 1;
+    /// assert_eq!(Drawer::from_bytes(&stored), Err(Refusal::DrawerDamaged));
+    /// # Ok::<(), Refusal>(())
+    /// ```
+    ///
+    /// # Errors
+    ///
+    /// [`Refusal::DrawerDamaged`] if the bytes are not exactly what
+    /// [`to_bytes`](Drawer::to_bytes) answers for some drawer.
+    pub fn from_bytes(bytes: &[u8]) -> Result<Drawer, Refusal> {
+        // SAFETY: see the crate's root.
+        let loaded = unsafe { vespruldo_drawer_load(bytes.as_ptr(), bytes.len()) };
+        result_of(loaded.number, &[Refusal::DrawerDamaged])?;
+        Ok(Drawer(loaded.drawer))
     }
 
     /// Hands the drawer to `draw` and, unless that refuses, takes the one handed

@@ -1,90 +1,120 @@
 //! Sealing for talking card readers: safe Rust over the archive
-//! `libvespruldo.a`.
+//! `libvespruldo.a`, for x86-64.
 //!
 //! A card is sealed under the key of its class, with a nonce that a drawer hands
 //! out once. It is stored, read back and opened:
 //!
 //! ```
-//! use vespruldo::{open, seal, Drawer, Key, Refusal, Sealed};
+//! use vespruldo::{open, seal, Data, Drawer, Key, Refusal, Sealed};
 //!
 //! let key = Key::from([1; 16]);
 //! let mut drawer = Drawer::start(7, 0); // the reader's number, and the count it had reached
 //! let nonce = drawer.draw()?;
-//! // Here the new `drawer.count()` is stored, before the nonce is used.
-//! let Sealed { nonce, ciphertext, tag } = seal(&key, nonce, b"class 7", b"Anna, desk 4")?;
-//! let stored = [nonce.as_bytes(), &ciphertext[..], tag.as_bytes()].concat();
+//! // Here the new `drawer.to_bytes()` is stored, before the nonce is used.
+//! let stored = seal(&key, nonce, Data(b"class 7"), b"Anna, desk 4")?.to_bytes()?;
 //!
-//! let (nonce, rest) = stored.split_at(12);
-//! let (ciphertext, tag) = rest.split_at(rest.len() - 16);
-//! let mut card = Sealed {
-//!     nonce: nonce.try_into()?,
-//!     ciphertext: ciphertext.to_vec(),
-//!     tag: tag.try_into()?,
-//! };
-//! assert_eq!(open(&key, b"class 7", &card)?, b"Anna, desk 4");
+//! let mut card = Sealed::from_bytes(&stored)?;
+//! assert_eq!(open(&key, Data(b"class 7"), &card)?, b"Anna, desk 4");
 //!
 //! // One bit was changed on the way: the card is refused and there is no text.
 //! card.ciphertext[0] ^= 1;
-//! assert_eq!(open(&key, b"class 7", &card), Err(Refusal::WrongTag));
+//! assert_eq!(open(&key, Data(b"class 7"), &card), Err(Refusal::WrongTag));
 //! # Ok::<(), Refusal>(())
 //! ```
+//!
+//! A card that is stored has the nonce in 12 bytes, the length of the ciphertext
+//! in 2, little-endian, the ciphertext, as long as the text, and the tag in 16:
+//! 30 bytes more than its text, which has at most 65,535. The tool `cards` and
+//! the archive's own functions for whole cards have the same layout. What is
+//! longer is sealed too, up to 1,048,576 bytes, and stored in the caller's way.
 //!
 //! The key can stay in its key book:
 //!
 //! ```
-//! use vespruldo::{find_key, seal, Drawer};
+//! use vespruldo::{find_key, seal, Data, Drawer};
 //!
-//! // One entry: class 7 and its key. The other book has none.
+//! // One entry: class 7 and its key. There is no book of last term.
 //! let this_term = [&[1, 0, 7, 0][..], &[1; 16]].concat();
-//! let last_term = [0, 0];
 //!
-//! let key = find_key(&this_term, &last_term, 7)?;
-//! let card = seal(key, Drawer::start(7, 0).draw()?, b"class 7", b"Anna, desk 4")?;
+//! let key = find_key(&this_term, None, 7)?;
+//! let card = seal(key, Drawer::start(7, 0).draw()?, Data(b"class 7"), b"Anna, desk 4")?;
 //! # Ok::<(), vespruldo::Refusal>(())
 //! ```
 //!
-//! What is refused comes back as a [`Refusal`], with the number and the words of
-//! document 01. The types rule out the rest:
+//! What is refused comes back as a [`Refusal`], with its number and its words.
+//! The types rule out the rest:
 //!
 //! - A key, nonce, iv or tag has the right length from the moment it is made.
-//! - A [`Drawer`], a [`Nonce`] and an [`Iv`] cannot be copied, and [`seal`] takes
-//!   its nonce for good: none is used twice by a slip.
-//! - A [`Key`], [`StreamKey`] or [`WideKey`] is never printed or compared, and is
-//!   wiped when dropped.
+//! - [`Data`], which is not hidden, cannot be exchanged with the text, which is.
+//! - A fresh number and a used one are different types. A [`Nonce`] and an [`Iv`]
+//!   cannot be copied, and [`seal`], [`seal_short`], [`seal_in_place`],
+//!   [`chacha20`] and [`lioness_encipher`] take theirs for good: none is used
+//!   twice by a slip. What comes back is a [`UsedNonce`] or a [`UsedIv`], which
+//!   seals and enciphers nothing; only [`chacha20_again`] goes on with a key
+//!   stream under one, and must be told where.
+//! - A [`Drawer`] cannot be copied: a copy would hand out the same numbers.
+//! - A [`Key`], [`StreamKey`] or [`WideKey`] has no `==`, is shown without its
+//!   bytes, and is wiped when dropped.
 //! - If [`open`] refuses, there is no text to read.
+//!
+//! All this stops slips, not intent: `Nonce::from` and `Iv::from` take any bytes
+//! for fresh ones, a drawer that is started again from an older count hands out
+//! the same numbers again, and [`slices`] takes whatever bytes it is lent.
 //!
 //! The lengths that are allowed have names in [`sizes`]. The functions in
 //! [`slices`] take slices of any length and write to room that is lent; those at
-//! the root allocate what [`seal`] and [`open`] answer, and nothing else.
+//! the root allocate what [`seal`] and [`open`] and their short forms answer, and
+//! a card's bytes, and nothing else.
+//!
+//! The crate does without `std`. What allocates is in the feature `alloc`, which
+//! is on by default: with `default-features = false` there is no heap, and no
+//! [`Sealed`], [`seal`], [`open`] or short form. [`seal_in_place`] and
+//! [`open_in_place`], [`slices::card_seal`] and [`slices::card_open`] do the same
+//! work in memory that is lent.
+
+#![cfg_attr(not(test), no_std)]
+
+#[cfg(feature = "alloc")]
+extern crate alloc;
 
 // Why the calls into the archive are safe. Each of its functions reads and
 // writes only the buffers it is handed, each within its length, and wants those
 // it writes to lie apart from all others. Every call hands over each slice's
 // own pointer and length, the slices are lent for the whole call, and each
-// written one (two in sealing: room and tag) is lent mutably, so no other
-// overlaps it. Key books are only read and may overlap. Drawers, and answers
-// that are more than a number, go by value in the layout that C gives them;
-// they hold only numbers and bytes, for which every value is allowed.
+// written one (two in sealing: room or buffer, and tag) is lent mutably, so no
+// other overlaps it. Key books and what is compared are only read and may
+// overlap. Drawers, and answers that are more than a number, go by value in the
+// layout that C gives them; they hold only numbers and bytes, for which every
+// value is allowed. The one `bool` comes back as C has it, in a byte that is 0
+// or 1. The build script links no archive of another interface.
 
 #[doc(hidden)]
 pub mod archive;
 mod blocks;
 mod books;
 mod bytes;
+#[cfg(feature = "alloc")]
 mod cards;
+mod data;
 mod drawer;
+mod in_place;
 mod refusal;
 pub mod sizes;
 pub mod slices;
 
-pub use blocks::{chacha20, gift_decipher, gift_encipher, lioness_decipher, lioness_encipher};
+pub use blocks::{
+    chacha20, chacha20_again, gift_decipher, gift_encipher, lioness_decipher, lioness_encipher,
+};
 pub use books::find_key;
-pub use bytes::{Iv, Key, Nonce, StreamKey, Tag, WideKey};
+pub use bytes::{Iv, Key, Nonce, StreamKey, Tag, UsedIv, UsedNonce, WideKey};
+#[cfg(feature = "alloc")]
 pub use cards::{open, open_short, seal, seal_short, Sealed};
+pub use data::Data;
 pub use drawer::Drawer;
-pub use refusal::Refusal;
+pub use in_place::{open_in_place, seal_in_place};
+pub use refusal::{NotARefusal, Refusal};
 #[doc(inline)]
-pub use slices::blake2b;
+pub use slices::{blake2b, same};
 
 /// The Rust of README.md, run with the examples here.
 #[cfg(doctest)]

@@ -1,14 +1,21 @@
-//! The refusals of document 01's table "What comes back".
+//! The refusals: those of document 01's table "What comes back", two of document
+//! 02, and one of the tool `cards`.
 
-use std::error::Error;
-use std::fmt;
+use core::error::Error;
+use core::fmt;
 
 /// The refusals, each by its name, its number and its words.
 macro_rules! refusals {
     ($($name:ident = $number:literal, $words:literal;)+) => {
-        /// Why a call was refused: a row of document 01's table "What comes
-        /// back". Each function says what the buffers lent to it hold then.
+        /// Why a call was refused, by its number: 1 to 11 are the rows of document
+        /// 01's table "What comes back", 12 and 15 are given for a card that is
+        /// not as long as it says, and 106 is that of the tool `cards`. Each
+        /// function says what the buffers lent to it hold then.
+        ///
+        /// A later version may have more of them, so a `match` needs a line for
+        /// the others.
         #[derive(Clone, Copy, Debug, PartialEq, Eq, Hash)]
+        #[non_exhaustive]
         pub enum Refusal {
             $(
                 #[doc = concat!("Number ", $number, ": ", $words, ".")]
@@ -18,7 +25,7 @@ macro_rules! refusals {
 
         impl Refusal {
             /// All of them, in the order of their numbers.
-            pub const ALL: [Refusal; 11] = [$(Refusal::$name),+];
+            pub const ALL: &'static [Refusal] = &[$(Refusal::$name),+];
         }
 
         impl fmt::Display for Refusal {
@@ -43,21 +50,71 @@ refusals! {
     DrawerSpent = 9, "drawer spent";
     BookForm = 10, "either key book badly formed";
     ClassMissing = 11, "neither book has an entry for the class";
+    CutShort = 12, "cut short";
+    LeftOver = 15, "bytes left over";
+    DrawerDamaged = 106, "drawer file damaged";
 }
 
 impl Refusal {
-    /// The document's number.
+    /// The number, as C programs and the tool `cards` have it.
     ///
     /// ```
     /// assert_eq!(vespruldo::Refusal::KeyLength.number(), 1);
     /// assert_eq!(vespruldo::Refusal::ClassMissing.number(), 11);
     /// ```
+    #[must_use]
     pub fn number(self) -> u32 {
         self as u32
     }
 }
 
 impl Error for Refusal {}
+
+/// ```
+/// use vespruldo::Refusal;
+///
+/// let status = 7; // of a run of the tool `cards`
+/// assert_eq!(Refusal::try_from(status), Ok(Refusal::WrongTag));
+///
+/// let why = Refusal::try_from(13).unwrap_err();
+/// assert_eq!(why.to_string(), "13 is not the number of a refusal");
+/// let why = Refusal::try_from(0).unwrap_err();
+/// assert_eq!(why.to_string(), "0 is no refusal: it says that all was done");
+/// ```
+impl TryFrom<u32> for Refusal {
+    type Error = NotARefusal;
+
+    fn try_from(number: u32) -> Result<Refusal, NotARefusal> {
+        let found = Refusal::ALL
+            .iter()
+            .find(|refusal| refusal.number() == number);
+        found.copied().ok_or(NotARefusal(number))
+    }
+}
+
+/// A number that is none of a [`Refusal`]. One that is unknown here may come from
+/// a later version; 0 is what is answered when all was done.
+#[derive(Clone, Copy, Debug, PartialEq, Eq, Hash)]
+pub struct NotARefusal(u32);
+
+impl NotARefusal {
+    /// The number.
+    #[must_use]
+    pub fn number(self) -> u32 {
+        self.0
+    }
+}
+
+impl fmt::Display for NotARefusal {
+    fn fmt(&self, f: &mut fmt::Formatter<'_>) -> fmt::Result {
+        match self.0 {
+            0 => f.write_str("0 is no refusal: it says that all was done"),
+            number => write!(f, "{number} is not the number of a refusal"),
+        }
+    }
+}
+
+impl Error for NotARefusal {}
 
 /// The result that a number stands for: it comes from a function of the archive
 /// that promises these refusals and no others.
@@ -80,24 +137,32 @@ pub(crate) fn result_of(number: u32, promised: &[Refusal]) -> Result<(), Refusal
 mod tests {
     use super::*;
 
-    const HEADER: &str = include_str!("../../../include/vespruldo.h");
+    // tests/agreement holds names, numbers and words to the header's.
 
     #[test]
-    fn numbers_and_words_are_the_headers() {
-        assert_eq!(result_of(0, &Refusal::ALL), Ok(()));
-        // The lines after that of 0, in the order of their numbers.
-        let mut lines = HEADER
-            .lines()
-            .skip_while(|line| *line != "#define VESPRULDO_DONE 0")
-            .skip(1);
-        for (number, refusal) in (1..).zip(Refusal::ALL) {
-            assert_eq!(result_of(number, &Refusal::ALL), Err(refusal));
-            assert_eq!(refusal.number(), number);
-            let line = lines.next().expect("a line of the header");
-            let said: Vec<&str> = line.split_whitespace().skip(2).collect();
-            assert_eq!(said.join(" "), format!("{number} /* {refusal} */"));
+    fn numbers_promised_are_their_refusals() {
+        assert_eq!(result_of(0, Refusal::ALL), Ok(()));
+        for &refusal in Refusal::ALL {
+            assert_eq!(result_of(refusal.number(), Refusal::ALL), Err(refusal));
+            assert_eq!(result_of(refusal.number(), &[refusal]), Err(refusal));
         }
-        assert_eq!(lines.next(), Some(""));
+    }
+
+    /// Every number that could be one of a byte, and the ends of the others.
+    #[test]
+    fn numbers_are_taken_for_their_refusals_and_no_others() {
+        let mut taken = Vec::new();
+        for number in (0..=256).chain([1 << 31, u32::MAX]) {
+            match Refusal::try_from(number) {
+                Ok(refusal) => {
+                    assert_eq!(refusal.number(), number);
+                    taken.push(refusal);
+                }
+                Err(why) => assert_eq!(why.number(), number),
+            }
+        }
+        assert_eq!(taken, Refusal::ALL);
+        assert!(taken.is_sorted_by_key(|refusal| refusal.number()));
     }
 
     #[test]

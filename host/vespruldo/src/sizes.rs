@@ -1,6 +1,6 @@
 //! The lengths in bytes that document 01 allows, by the names of the C header
 //! without its prefix: `_BYTES` is the only one, `_MIN` and `_MAX` are the least
-//! and the greatest.
+//! and the greatest, `_EXTRA` is what a card has besides its ciphertext.
 
 /// Key for sealing, opening and GIFT-128.
 pub const KEY_BYTES: usize = 16;
@@ -8,6 +8,12 @@ pub const KEY_BYTES: usize = 16;
 pub const NONCE_BYTES: usize = 12;
 /// Tag for sealing and opening.
 pub const TAG_BYTES: usize = 16;
+/// What a card has besides its ciphertext: nonce, length and tag.
+pub const CARD_EXTRA: usize = 30;
+/// Text of a card.
+pub const CARD_TEXT_MAX: usize = 65_535;
+/// A drawer that is stored.
+pub const DRAWER_BYTES: usize = 44;
 /// Associated data for sealing and opening.
 pub const DATA_MAX: usize = 65_536;
 /// Text for sealing, ChaCha20 and BLAKE2b; ciphertext for opening.

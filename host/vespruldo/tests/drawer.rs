@@ -4,9 +4,9 @@ mod common;
 
 use std::collections::BTreeSet;
 
-use common::{number, times, up_to};
-use second::drawer;
+use common::{number, times, up_to, with_flip, Guarded};
 use second::random::Random;
+use second::{drawer, drawer_file};
 // The archive's functions themselves: the safe ones show neither the bytes that
 // a refused draw answers nor the drawer that it hands back.
 use vespruldo::archive;
@@ -65,7 +65,7 @@ impl Taken {
     fn safe(self, drawer: &mut Drawer) -> Result<Vec<u8>, Refusal> {
         match self {
             Taken::Draw => drawer.draw().map(|nonce| nonce.as_bytes().to_vec()),
-            Taken::Iv => drawer.iv().map(|iv| iv.as_bytes().to_vec()),
+            Taken::Iv => drawer.draw_iv().map(|iv| iv.as_bytes().to_vec()),
         }
     }
 
@@ -194,7 +194,7 @@ fn zeros_are_told_apart_by_the_number() {
         }
     }
     assert_eq!(Drawer::start(0, 0).draw(), Ok([0; 12].into()));
-    assert_eq!(Drawer::start(0, 0).iv(), Ok([0; 48].into()));
+    assert_eq!(Drawer::start(0, 0).draw_iv(), Ok([0; 48].into()));
 }
 
 /// A drawer holds nothing but its two numbers: started again from a count that
@@ -214,4 +214,130 @@ fn drawers_go_on_from_the_count_written_down() {
             assert_eq!(again, drawer);
         }
     }
+}
+
+/// The bytes of a drawer, on which all agree.
+fn stored(reader: u32, count: u64) -> Vec<u8> {
+    // SAFETY: drawers and answers go by value, and every drawer is allowed.
+    let raw = unsafe { archive::vespruldo_drawer_store(archive::Drawer { reader, count }) };
+    let expected = drawer_file::store(drawer::start(reader, count));
+    assert_eq!(raw.bytes[..], expected, "{reader} {count}");
+    assert_eq!(Drawer::start(reader, count).to_bytes()[..], expected);
+    expected
+}
+
+/// The drawer that these bytes are, on which all agree; nothing if they are
+/// refused, and what is answered then is spent. The bytes stay as they are.
+fn loaded(random: &mut Random, bytes: &[u8]) -> Option<(u32, u64)> {
+    let mut lent = Guarded::holding(random, bytes);
+    let before = lent.clone();
+    let (place, len) = (lent.lent().as_ptr(), bytes.len());
+    // SAFETY: the bytes are lent for the whole call and only read.
+    let raw = unsafe { archive::vespruldo_drawer_load(place, len) };
+    assert!(lent == before, "the bytes, or their guards");
+    let expected = drawer_file::load(bytes).map(|drawer| (drawer.reader, drawer.count));
+    let (number, drawer) = match expected {
+        Some(drawer) => (0, drawer),
+        None => (106, (0, u64::MAX)),
+    };
+    assert_eq!(raw.number, number, "{bytes:?}");
+    assert_eq!((raw.drawer.reader, raw.drawer.count), drawer, "{bytes:?}");
+    let safe = Drawer::from_bytes(bytes).map(|drawer| (drawer.reader(), drawer.count()));
+    assert_eq!(safe, expected.ok_or(Refusal::DrawerDamaged));
+    expected
+}
+
+#[test]
+fn stored_drawers_are_loaded_again() {
+    let mut random = Random::new(84);
+    for count in border_counts() {
+        for reader in [0, 1, 0x0102_0304, u32::MAX] {
+            let bytes = stored(reader, count);
+            assert_eq!(loaded(&mut random, &bytes), Some((reader, count)));
+        }
+    }
+    for _ in 0..times(20_000) {
+        let (reader, count) = (random.next_u64() as u32, random.next_u64());
+        let bytes = stored(reader, count);
+        assert_eq!(loaded(&mut random, &bytes), Some((reader, count)));
+    }
+}
+
+#[test]
+fn every_flipped_bit_of_a_stored_drawer_is_seen() {
+    let mut random = Random::new(85);
+    for (reader, count) in [(0, 0), (7, 258), (u32::MAX, u64::MAX)] {
+        let bytes = stored(reader, count);
+        for bit in 0..8 * bytes.len() {
+            assert_eq!(loaded(&mut random, &with_flip(&bytes, bit)), None, "{bit}");
+        }
+        // The numbers of one drawer with the digest of another.
+        let other = stored(reader, count ^ 1);
+        assert_eq!(
+            loaded(&mut random, &[&bytes[..12], &other[12..]].concat()),
+            None
+        );
+    }
+}
+
+#[test]
+fn stored_drawers_of_another_length_are_refused() {
+    let mut random = Random::new(86);
+    let bytes = stored(7, 258);
+    for len in 0..44 {
+        assert_eq!(loaded(&mut random, &bytes[..len]), None, "{len}");
+        assert_eq!(loaded(&mut random, &bytes[44 - len..]), None, "{len}");
+    }
+    // Lengths that are allowed to whoever keeps only their low bits, too.
+    for more in [1, 12, 44, 1 << 8, 1 << 16] {
+        let longer = [&bytes[..], &vec![0; more]].concat();
+        assert_eq!(loaded(&mut random, &longer), None, "{more}");
+        let later = [&vec![0; more], &bytes[..]].concat();
+        assert_eq!(loaded(&mut random, &later), None, "{more}");
+    }
+    assert_eq!(loaded(&mut random, &[0; 44]), None);
+    // A slice of nothing lies nowhere.
+    assert_eq!(Drawer::from_bytes(&[]), Err(Refusal::DrawerDamaged));
+}
+
+/// Hardly any of the memory is ever touched, so the system need not provide it.
+#[test]
+#[cfg(target_pointer_width = "64")]
+fn stored_drawers_of_2_to_the_32_bytes_and_more_are_refused() {
+    let bytes = stored(7, 258);
+    let mut huge = vec![0; (1 << 32) + 44];
+    huge[..44].copy_from_slice(&bytes);
+    assert_eq!(Drawer::from_bytes(&huge), Err(Refusal::DrawerDamaged));
+}
+
+/// Whoever does not look at the number draws nothing from a refused drawer.
+#[test]
+fn refused_drawers_are_spent() {
+    // SAFETY: the bytes are lent for the whole call, and the rest goes by value.
+    unsafe {
+        let damaged = archive::vespruldo_drawer_load([7; 44].as_ptr(), 44);
+        assert_eq!(damaged.number, 106);
+        let drawn = archive::vespruldo_drawer_draw(damaged.drawer);
+        assert_eq!((drawn.number, drawn.bytes), (9, [0; 12]));
+        assert_eq!(drawn.next, damaged.drawer);
+        let drawn = archive::vespruldo_drawer_iv(damaged.drawer);
+        assert_eq!((drawn.number, drawn.bytes), (9, [0; 48]));
+        assert_eq!(drawn.next, damaged.drawer);
+    }
+}
+
+/// A drawer that is stored after each draw goes on where it was, and a spent one
+/// stays so.
+#[test]
+fn drawers_go_on_from_the_bytes_stored() {
+    let mut random = Random::new(87);
+    let mut drawer = start(7, u64::MAX - 20);
+    let mut numbers = BTreeSet::new();
+    for _ in 0..20 {
+        let drawn = Taken::random(&mut random).compare(&mut drawer);
+        assert!(numbers.insert(drawn.expect("not spent yet")));
+        drawer = Drawer::from_bytes(&drawer.to_bytes()).expect("a drawer");
+    }
+    assert_eq!(drawer.draw(), Err(Refusal::DrawerSpent));
+    assert_eq!(drawer, start(7, u64::MAX));
 }

@@ -1,6 +1,6 @@
-//! A million short random cases, fewer under an emulator, over all entry points
-//! of the archive beside the second implementation, from many threads at once,
-//! each on buffers of its own.
+//! A million short random cases, fewer under an emulator, over all functions of
+//! the archive that are lent or handed anything, beside the second
+//! implementation, from many threads at once, each on buffers of its own.
 
 mod common;
 
@@ -10,10 +10,13 @@ use std::sync::Barrier;
 use std::thread;
 
 use common::books::{self, book, with_count};
-use common::pairs::{self, judged};
-use common::{times, up_to, with_flip, Guarded, Pair, LONGEST_BLOCK, LONGEST_DATA, LONGEST_TEXT};
+use common::pairs::{self, judged, judged_card_open};
+use common::{
+    times, up_to, with_flip, Guarded, Pair, CARD_EXTRA, LONGEST_BLOCK, LONGEST_CARD_TEXT,
+    LONGEST_DATA, LONGEST_TEXT,
+};
 use second::random::Random;
-use second::{drawer, hyena};
+use second::{card, drawer, drawer_file, hyena};
 use vespruldo::archive;
 
 const THREADS: u64 = 16;
@@ -30,6 +33,10 @@ enum Entry {
     Open,
     SealShort,
     OpenShort,
+    SealInPlace,
+    OpenInPlace,
+    CardSeal,
+    CardOpen,
     GiftEncipher,
     GiftDecipher,
     ChaCha20,
@@ -39,26 +46,36 @@ enum Entry {
     DrawerStart,
     DrawerDraw,
     DrawerIv,
+    DrawerStore,
+    DrawerLoad,
     KeyFind,
+    Same,
 }
 
 /// Each entry point, how many of a thousand cases are its own, and the numbers
-/// that it answers (document 01, What comes back).
-const ENTRIES: [(Entry, usize, &[u32]); 14] = [
-    (Entry::Seal, 70, &[0, 1, 2, 3, 4, 5, 6]),
-    (Entry::Open, 90, &[0, 1, 2, 3, 4, 5, 6, 7]),
-    (Entry::SealShort, 50, &[0, 1, 2, 4, 5, 6]),
-    (Entry::OpenShort, 70, &[0, 1, 2, 4, 5, 6, 7]),
-    (Entry::GiftEncipher, 50, &[0, 1, 4]),
-    (Entry::GiftDecipher, 50, &[0, 1, 4]),
-    (Entry::ChaCha20, 120, &[0, 1, 2, 4, 8]),
-    (Entry::Blake2b, 100, &[0, 1, 4, 6]),
-    (Entry::LionessEncipher, 60, &[0, 1, 2, 4]),
-    (Entry::LionessDecipher, 60, &[0, 1, 2, 4]),
-    (Entry::DrawerStart, 40, &[0]),
-    (Entry::DrawerDraw, 70, &[0, 9]),
-    (Entry::DrawerIv, 70, &[0, 9]),
-    (Entry::KeyFind, 100, &[0, 10, 11]),
+/// that it answers.
+const ENTRIES: [(Entry, usize, &[u32]); 21] = [
+    (Entry::Seal, 55, &[0, 1, 2, 3, 4, 5, 6]),
+    (Entry::Open, 70, &[0, 1, 2, 3, 4, 5, 6, 7]),
+    (Entry::SealShort, 40, &[0, 1, 2, 4, 5, 6]),
+    (Entry::OpenShort, 50, &[0, 1, 2, 4, 5, 6, 7]),
+    (Entry::SealInPlace, 50, &[0, 1, 2, 3, 4, 5]),
+    (Entry::OpenInPlace, 60, &[0, 1, 2, 3, 4, 5, 7]),
+    (Entry::CardSeal, 50, &[0, 1, 2, 3, 4, 6]),
+    (Entry::CardOpen, 80, &[0, 1, 3, 6, 7, 12, 15]),
+    (Entry::GiftEncipher, 35, &[0, 1, 4]),
+    (Entry::GiftDecipher, 35, &[0, 1, 4]),
+    (Entry::ChaCha20, 80, &[0, 1, 2, 4, 8]),
+    (Entry::Blake2b, 70, &[0, 1, 4, 6]),
+    (Entry::LionessEncipher, 45, &[0, 1, 2, 4]),
+    (Entry::LionessDecipher, 45, &[0, 1, 2, 4]),
+    (Entry::DrawerStart, 15, &[0]),
+    (Entry::DrawerDraw, 40, &[0, 9]),
+    (Entry::DrawerIv, 40, &[0, 9]),
+    (Entry::DrawerStore, 25, &[0]),
+    (Entry::DrawerLoad, 35, &[0, 106]),
+    (Entry::KeyFind, 60, &[0, 10, 11]),
+    (Entry::Same, 20, &[0, 1]),
 ];
 
 impl Entry {
@@ -79,20 +96,22 @@ impl Entry {
 enum Size {
     Exactly(usize),
     Between(usize, usize),
-    /// At least the length of the buffer that stands at this place.
-    Room(usize),
+    /// At least the length of the buffer that stands at this place, and so many
+    /// bytes more.
+    Room(usize, usize),
 }
 
 const TEXT: Size = Size::Between(0, LONGEST_TEXT);
+const DATA: Size = Size::Between(0, LONGEST_DATA);
 
 /// Key, nonce, associated data, text, tag and room.
 const HYENA: [Size; 6] = [
     Size::Exactly(16),
     Size::Exactly(12),
-    Size::Between(0, LONGEST_DATA),
+    DATA,
     TEXT,
     Size::Exactly(16),
-    Size::Room(3),
+    Size::Room(3, 0),
 ];
 
 /// The same without data.
@@ -101,7 +120,34 @@ const HYENA_SHORT: [Size; 5] = [
     Size::Exactly(12),
     TEXT,
     Size::Exactly(16),
-    Size::Room(2),
+    Size::Room(2, 0),
+];
+
+/// Key, nonce, associated data, buffer and tag.
+const IN_PLACE: [Size; 5] = [
+    Size::Exactly(16),
+    Size::Exactly(12),
+    DATA,
+    TEXT,
+    Size::Exactly(16),
+];
+
+/// Key, nonce, associated data, text, and room for the card.
+const CARD_SEAL: [Size; 5] = [
+    Size::Exactly(16),
+    Size::Exactly(12),
+    DATA,
+    Size::Between(0, LONGEST_CARD_TEXT),
+    Size::Room(3, CARD_EXTRA),
+];
+
+/// Key, associated data, the text that a card says it has, which cannot be too
+/// long, and room for it.
+const CARD_OPEN: [Size; 4] = [
+    Size::Exactly(16),
+    DATA,
+    Size::Between(0, 200),
+    Size::Room(2, 0),
 ];
 
 const GIFT: [Size; 2] = [Size::Exactly(16), Size::Exactly(16)];
@@ -132,8 +178,8 @@ impl Size {
                 let more = if once_in(random, 16) { 200 } else { 40 };
                 most.min(least + up_to(random, more))
             }
-            Size::Room(place) if once_in(random, 2) => lens[place],
-            Size::Room(place) => lens[place] + up_to(random, 20),
+            Size::Room(place, more) if once_in(random, 2) => lens[place] + more,
+            Size::Room(place, more) => lens[place] + more + up_to(random, 20),
         }
     }
 
@@ -148,12 +194,12 @@ impl Size {
         match self {
             Size::Exactly(len) if once_in(random, 2) => len + 1 + below(random, len),
             Size::Exactly(len) => below(random, len),
-            Size::Between(_, most) if once_in(random, 2 + most / 40_000) => {
+            Size::Between(_, most) if once_in(random, 2 + most / 64_000) => {
                 most + 1 + below(random, 17)
             }
             Size::Between(0, _) => self.right(random, lens),
             Size::Between(least, _) => below(random, least),
-            Size::Room(place) => below(random, lens[place]),
+            Size::Room(place, more) => below(random, lens[place] + more),
         }
     }
 }
@@ -210,6 +256,51 @@ fn opening(random: &mut Random, lens: [usize; 6]) -> ([Guarded; 5], Guarded, u32
     (parts, Guarded::new(random, room), expected)
 }
 
+/// What to open in place where these are the lengths, and the number that must be
+/// answered: as above, but that the buffer is text and room.
+fn opening_in_place(random: &mut Random, lens: [usize; 5]) -> ([Guarded; 4], Guarded, u32) {
+    let [key, nonce, data, buffer, tag] = lens;
+    let lens = [key, nonce, data, buffer, tag, buffer];
+    let ([key, nonce, data, buffer, tag], _, expected) = opening(random, lens);
+    ([key, nonce, data, tag], buffer, expected)
+}
+
+/// Cuts a card short, adds bytes or flips a bit.
+fn damage_card(random: &mut Random, card: &mut Vec<u8>) {
+    match up_to(random, 3) {
+        0 => card.truncate(up_to(random, card.len() - 1)),
+        1 => {
+            let more = 1 + up_to(random, 40);
+            card.extend(random.bytes(more));
+        }
+        _ => *card = with_flip(card, up_to(random, 8 * card.len() - 1)),
+    }
+}
+
+/// What to open as a card where these are the lengths, room for it, and the
+/// number that must be answered. Half of the cards are undamaged.
+fn opening_card(random: &mut Random, lens: [usize; 4]) -> ([Guarded; 3], Guarded, u32) {
+    let [key_len, data_len, text_len, room_len] = lens;
+    // A key or data of a wrong length has sealed nothing.
+    let sealed_len = if data_len > LONGEST_DATA { 0 } else { data_len };
+    let [mut key, nonce, mut data, text] =
+        [16, 12, sealed_len, text_len].map(|len| random.bytes(len));
+    // Not the archive seals: it must open what others sealed.
+    let mut bytes = card::seal(&key, &nonce, &data, &text).expect("the lengths are allowed");
+    key.resize(key_len, 0);
+    data.resize(data_len, 0);
+    let damaged = once_in(random, 2);
+    if damaged {
+        damage_card(random, &mut bytes);
+    }
+    let said = [12, 13].map(|place| bytes.get(place).copied().unwrap_or(0));
+    let said = usize::from(u16::from_le_bytes(said));
+    let judged = judged_card_open([key_len, data_len, bytes.len()], said, room_len);
+    let expected = if judged == 0 && damaged { 7 } else { judged };
+    let read = [key, data, bytes].map(|part| Guarded::holding(random, &part));
+    (read, Guarded::new(random, room_len), expected)
+}
+
 /// A start from which a short text ends near the counter's end, or any.
 fn chacha20_start(random: &mut Random) -> u32 {
     let near_end = u32::MAX - up_to(random, 4) as u32;
@@ -254,6 +345,67 @@ fn compare_starts(random: &mut Random) -> u32 {
     assert_eq!(started.reader, expected.reader, "{case}");
     assert_eq!(started.count, expected.count, "{case}");
     0
+}
+
+/// Both store a drawer in the same bytes.
+fn compare_stores(random: &mut Random) -> u32 {
+    let (reader, count) = drawer_numbers(random);
+    // SAFETY: drawers and answers go by value, and every drawer is allowed.
+    let stored = unsafe { archive::vespruldo_drawer_store(archive::Drawer { reader, count }) };
+    let expected = drawer_file::store(drawer::start(reader, count));
+    assert_eq!(stored.bytes[..], expected, "reader {reader}, count {count}");
+    0
+}
+
+/// Both load a drawer from its bytes, in half of the cases damaged ones.
+fn compare_loads(random: &mut Random) -> u32 {
+    let (reader, count) = drawer_numbers(random);
+    let mut bytes = drawer_file::store(drawer::start(reader, count));
+    match up_to(random, 5) {
+        0 => bytes = with_flip(&bytes, up_to(random, 8 * bytes.len() - 1)),
+        1 => bytes.truncate(up_to(random, bytes.len() - 1)),
+        2 => {
+            let more = 1 + up_to(random, 20);
+            bytes.extend(random.bytes(more));
+        }
+        _ => {}
+    }
+    let expected = drawer_file::load(&bytes);
+    let mut lent = Guarded::holding(random, &bytes);
+    let before = lent.clone();
+    let place = lent.lent().as_ptr();
+    // SAFETY: the bytes are lent for the whole call and only read.
+    let loaded = unsafe { archive::vespruldo_drawer_load(place, bytes.len()) };
+    assert!(lent == before, "the bytes, or their guards");
+    let refused = drawer::start(0, u64::MAX);
+    let drawer = expected.unwrap_or(refused);
+    assert_eq!(loaded.number, expected.map_or(106, |_| 0), "{bytes:?}");
+    assert_eq!(loaded.drawer.reader, drawer.reader, "{bytes:?}");
+    assert_eq!(loaded.drawer.count, drawer.count, "{bytes:?}");
+    loaded.number
+}
+
+/// Two buffers are compared: the same, or with a bit flipped, or another length.
+fn compare_comparisons(random: &mut Random) -> u32 {
+    let len = up_to(random, 80);
+    let a = random.bytes(len);
+    let mut b = a.clone();
+    match up_to(random, 3) {
+        0 if len > 0 => b = with_flip(&b, up_to(random, 8 * len - 1)),
+        1 if len > 0 => b.truncate(up_to(random, len - 1)),
+        _ => {}
+    }
+    let mut lent = [&a, &b].map(|bytes| Guarded::holding(random, bytes));
+    let before = lent.clone();
+    let [first, second] = lent.each_mut().map(|buffer| &*buffer.lent());
+    // SAFETY: both are lent for the whole call and only read.
+    let same = unsafe {
+        let [a, b] = [first, second].map(<[u8]>::as_ptr);
+        archive::vespruldo_same(a, first.len(), b, second.len())
+    };
+    assert!(lent == before, "what is compared, or its guards");
+    assert_eq!(same, a == b, "{a:?} and {b:?}");
+    u32::from(same)
 }
 
 /// A book with a few classes from 0 to `most`, one time out of four damaged in
@@ -315,6 +467,10 @@ struct Pairs {
     open: Pair<5, 1>,
     seal_short: Pair<3, 2>,
     open_short: Pair<4, 1>,
+    seal_in_place: Pair<3, 2>,
+    open_in_place: Pair<4, 1>,
+    card_seal: Pair<4, 1>,
+    card_open: Pair<3, 1>,
     gift_encipher: Pair<1, 1>,
     gift_decipher: Pair<1, 1>,
     blake2b: Pair<2, 1>,
@@ -329,6 +485,10 @@ impl Pairs {
             open: pairs::open(),
             seal_short: pairs::seal_short(),
             open_short: pairs::open_short(),
+            seal_in_place: pairs::seal_in_place(),
+            open_in_place: pairs::open_in_place(),
+            card_seal: pairs::card_seal(),
+            card_open: pairs::card_open(),
             gift_encipher: pairs::gift_encipher(),
             gift_decipher: pairs::gift_decipher(),
             blake2b: pairs::blake2b(),
@@ -340,17 +500,12 @@ impl Pairs {
     /// A case of this entry point; answers the number on which both agree.
     fn compare(&self, entry: Entry, random: &mut Random) -> u32 {
         match entry {
-            Entry::Seal => {
-                let [key, nonce, data, text, tag, room] = lengths(random, HYENA);
-                let read_lens = [key, nonce, data, text];
-                self.seal.compare(random, read_lens, [room, tag])
+            Entry::Seal | Entry::SealShort | Entry::SealInPlace | Entry::CardSeal => {
+                self.compare_sealings(entry, random)
             }
-            Entry::SealShort => {
-                let [key, nonce, text, tag, room] = lengths(random, HYENA_SHORT);
-                let read_lens = [key, nonce, text];
-                self.seal_short.compare(random, read_lens, [room, tag])
+            Entry::Open | Entry::OpenShort | Entry::OpenInPlace | Entry::CardOpen => {
+                self.compare_openings(entry, random)
             }
-            Entry::Open | Entry::OpenShort => self.compare_openings(entry, random),
             Entry::GiftEncipher => compare_gifts(&self.gift_encipher, random),
             Entry::GiftDecipher => compare_gifts(&self.gift_decipher, random),
             Entry::ChaCha20 => {
@@ -365,25 +520,66 @@ impl Pairs {
                 compare_draws(random, archive::vespruldo_drawer_draw, drawer::draw)
             }
             Entry::DrawerIv => compare_draws(random, archive::vespruldo_drawer_iv, drawer::iv),
+            Entry::DrawerStore => compare_stores(random),
+            Entry::DrawerLoad => compare_loads(random),
             Entry::KeyFind => compare_lookups(random),
+            Entry::Same => compare_comparisons(random),
+        }
+    }
+
+    fn compare_sealings(&self, entry: Entry, random: &mut Random) -> u32 {
+        match entry {
+            Entry::Seal => {
+                let [key, nonce, data, text, tag, room] = lengths(random, HYENA);
+                let read_lens = [key, nonce, data, text];
+                self.seal.compare(random, read_lens, [room, tag])
+            }
+            Entry::SealShort => {
+                let [key, nonce, text, tag, room] = lengths(random, HYENA_SHORT);
+                let read_lens = [key, nonce, text];
+                self.seal_short.compare(random, read_lens, [room, tag])
+            }
+            Entry::SealInPlace => {
+                let [key, nonce, data, buffer, tag] = lengths(random, IN_PLACE);
+                let read_lens = [key, nonce, data];
+                self.seal_in_place.compare(random, read_lens, [buffer, tag])
+            }
+            Entry::CardSeal => {
+                let [key, nonce, data, text, room] = lengths(random, CARD_SEAL);
+                let read_lens = [key, nonce, data, text];
+                self.card_seal.compare(random, read_lens, [room])
+            }
+            _ => panic!("{entry:?} seals nothing"),
         }
     }
 
     fn compare_openings(&self, entry: Entry, random: &mut Random) -> u32 {
-        let lens = if entry == Entry::Open {
-            lengths(random, HYENA)
-        } else {
-            let [key, nonce, text, tag, room] = lengths(random, HYENA_SHORT);
-            [key, nonce, 0, text, tag, room]
+        let ((number, _), expected) = match entry {
+            Entry::Open => {
+                let lens = lengths(random, HYENA);
+                let (parts, room, expected) = opening(random, lens);
+                (self.open.run(parts, [room]), expected)
+            }
+            Entry::OpenShort => {
+                let [key, nonce, text, tag, room] = lengths(random, HYENA_SHORT);
+                let lens = [key, nonce, 0, text, tag, room];
+                let ([key, nonce, _, text, tag], room, expected) = opening(random, lens);
+                let parts = [key, nonce, text, tag];
+                (self.open_short.run(parts, [room]), expected)
+            }
+            Entry::OpenInPlace => {
+                let lens = lengths(random, IN_PLACE);
+                let (parts, buffer, expected) = opening_in_place(random, lens);
+                (self.open_in_place.run(parts, [buffer]), expected)
+            }
+            Entry::CardOpen => {
+                let lens = lengths(random, CARD_OPEN);
+                let (parts, room, expected) = opening_card(random, lens);
+                (self.card_open.run(parts, [room]), expected)
+            }
+            _ => panic!("{entry:?} opens nothing"),
         };
-        let (parts, room, expected) = opening(random, lens);
-        let (number, _) = if entry == Entry::Open {
-            self.open.run(parts, [room])
-        } else {
-            let [key, nonce, _, text, tag] = parts;
-            self.open_short.run([key, nonce, text, tag], [room])
-        };
-        assert_eq!(number, expected, "{entry:?}, {lens:?}");
+        assert_eq!(number, expected, "{entry:?}");
         number
     }
 }

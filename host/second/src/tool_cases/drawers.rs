@@ -34,7 +34,7 @@ fn drawn(cases: &mut Cases, command: &'static str, file: &[u8]) {
     if command != "draw" {
         run.input("in", &text, Any);
     }
-    let Some(state) = drawer_file::recall(file) else {
+    let Some(state) = drawer_file::load(file) else {
         return run.refused(106, "drawer");
     };
     let nonce = drawer::draw(state);
@@ -47,14 +47,14 @@ fn drawn(cases: &mut Cases, command: &'static str, file: &[u8]) {
         _ => Ok(nonce.bytes.to_vec()),
     };
     run.gives(outcome, "in");
-    cases.changed(&name, &drawer_file::keep(nonce.next));
+    cases.changed(&name, &drawer_file::store(nonce.next));
 }
 
 /// Files that are no drawers: with a bit flipped in each part, cut, longer, with
 /// another drawer's digest, and of any bytes.
 fn damaged(cases: &mut Cases, state: Drawer) -> Vec<Vec<u8>> {
-    let file = drawer_file::keep(state);
-    let other = drawer_file::keep(Drawer {
+    let file = drawer_file::store(state);
+    let other = drawer_file::store(Drawer {
         count: state.count + 1,
         ..state
     });
@@ -73,7 +73,7 @@ fn damaged(cases: &mut Cases, state: Drawer) -> Vec<Vec<u8>> {
 
 pub fn add(cases: &mut Cases) {
     for (place, (reader, count)) in STATES.into_iter().enumerate() {
-        let file = drawer_file::keep(drawer::start(reader, count));
+        let file = drawer_file::store(drawer::start(reader, count));
         drawn(cases, "draw", &file);
         drawn(cases, COMMANDS[1 + place % 2], &file);
     }

@@ -2,7 +2,8 @@
 
 use crate::refusal::{result_of, Refusal};
 
-/// What sealing may refuse: 1 to 6. Opening refuses wrong tags too.
+/// What sealing may refuse: 1 to 6, the first of all. Opening refuses wrong tags
+/// too.
 const SEALING: usize = 6;
 const OPENING: usize = 7;
 

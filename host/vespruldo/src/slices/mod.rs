@@ -2,20 +2,28 @@
 //!
 //! They refuse all that the archive refuses, including what the types of the
 //! crate's root rule out, and allocate nothing: they write to room that is lent.
+//! Nothing here keeps a nonce or an iv from being used twice.
 
 /// Calls a function of the archive with the slices that it reads, the number
-/// that some take, and the slices that it writes.
+/// that some take, the slices that it writes, and one that it reads after those.
 macro_rules! call {
     ($function:ident: $($read:ident),*; $($written:ident),*) => {
-        call!($function: $($read),*; ; $($written),*)
+        call!($function: $($read),*; ; $($written),*;)
     };
     ($function:ident: $($read:ident),*; $($number:ident)?; $($written:ident),*) => {
+        call!($function: $($read),*; $($number)?; $($written),*;)
+    };
+    (
+        $function:ident: $($read:ident),*; $($number:ident)?; $($written:ident),*;
+        $($last:ident)?
+    ) => {
         // SAFETY: see the crate's root.
         unsafe {
             crate::archive::$function(
                 $($read.as_ptr(), $read.len(),)*
                 $($number,)?
                 $($written.as_mut_ptr(), $written.len(),)*
+                $($last.as_ptr(), $last.len(),)?
             )
         }
     };
@@ -23,15 +31,21 @@ macro_rules! call {
 
 mod blake;
 mod books;
+mod card;
 mod chacha;
 mod gift;
 mod hyena;
+mod in_place;
 mod lioness;
+mod same;
 
 pub use blake::blake2b;
 pub use books::find_key;
 pub(crate) use books::find_part;
+pub use card::{card_open, card_seal};
 pub use chacha::chacha20;
 pub use gift::{gift_decipher, gift_encipher};
 pub use hyena::{open, open_short, seal, seal_short};
+pub use in_place::{open_in_place, seal_in_place};
 pub use lioness::{lioness_decipher, lioness_encipher};
+pub use same::same;

@@ -3,90 +3,48 @@
 use std::collections::{BTreeMap, BTreeSet};
 
 use crate::model::{camel_case, declare, with_buffers, Function, Functions, Kind, Named, Structs};
-use crate::tokens::{self, without_comments, Tokens};
+use crate::preprocessor::Defined;
+use crate::tokens::Tokens;
 
 const PREFIX: &str = "vespruldo_";
 
-/// The lines for C++ and for compilers that know no attributes.
-const FOR_OTHERS: [&str; 4] = [
-    "",
-    "extern \"C\" {",
-    "}",
-    "#define VESPRULDO_LOOK_AT_ANSWER",
-];
-
 #[derive(Default)]
 pub struct Header {
-    /// The numbers that are defined, by their full names.
-    pub numbers: BTreeMap<String, u64>,
-    /// Names defined as attributes of functions.
-    attributes: BTreeSet<String>,
+    pub defined: Defined,
     /// By their names in Rattle.
     pub structs: Structs,
     pub functions: Functions,
+    /// What the header has itself, and the archive has not.
+    pub own: BTreeSet<String>,
+    /// What the numbers mean, by the names of the numbers.
+    pub words: BTreeMap<String, String>,
+    /// The function that whatever includes the header asks for.
+    pub asks_for: String,
 }
 
 impl Header {
     pub fn of(text: &str) -> Header {
         let mut header = Header::default();
-        let mut tokens = Tokens::of(&header.preprocessed(text));
+        let mut tokens = Tokens::of(&header.defined.preprocessed(text));
         while !tokens.at_end() {
             if tokens.take("typedef") {
                 header.typedef(&mut tokens);
             } else {
-                header.function(&mut tokens);
+                header.declaration(&mut tokens);
             }
         }
         header
     }
 
-    /// Does what the header asks of the preprocessor, as for a C compiler that
-    /// knows attributes: notes what is defined and keeps the lines that count.
-    fn preprocessed(&mut self, text: &str) -> String {
-        let mut kept = String::new();
-        let mut conditions = Vec::new();
-        for line in without_comments(text).lines() {
-            let line = line.trim();
-            assert!(!line.ends_with('\\'), "a line goes on: {line}");
-            match line {
-                "#ifdef __cplusplus" => conditions.push(false),
-                "#ifndef VESPRULDO_H" | "#if defined(__GNUC__)" => conditions.push(true),
-                "#else" => {
-                    let last = conditions.last_mut().expect("a condition");
-                    *last = !*last;
-                }
-                "#endif" => {
-                    conditions.pop().expect("a condition");
-                }
-                _ if conditions.contains(&false) => {
-                    assert!(FOR_OTHERS.contains(&line), "not understood: {line}");
-                }
-                "#include <stddef.h>" | "#include <stdint.h>" | "#define VESPRULDO_H" => {}
-                _ => match line.strip_prefix('#') {
-                    Some(directive) => self.define(directive),
-                    None => kept = kept + line + "\n",
-                },
-            }
-        }
-        assert!(conditions.is_empty(), "a condition is not ended");
-        kept
-    }
-
-    fn define(&mut self, directive: &str) {
-        let words: Vec<&str> = directive.split_whitespace().collect();
-        let ["define", name, value] = words[..] else {
-            panic!("not understood: #{directive}");
-        };
-        if value.starts_with("__attribute__") {
-            self.attributes.insert(name.to_string());
-        } else {
-            declare(&mut self.numbers, name.to_string(), tokens::number(value));
-        }
+    /// The number with this name, without the prefix.
+    pub fn number(&self, name: &str) -> u64 {
+        self.defined.numbers[&format!("VESPRULDO_{name}")]
     }
 
     /// A type without `*`.
     fn kind(&self, name: &str) -> Kind {
         match name {
+            "bool" => Kind::Bool,
             "uint16_t" => Kind::U16,
             "uint32_t" => Kind::U32,
             "uint64_t" => Kind::U64,
@@ -110,7 +68,7 @@ impl Header {
             let field = fields.name();
             let kind = if type_name == "uint8_t" {
                 let mut len = fields.group();
-                Kind::Bytes(self.numbers[&len.next()])
+                Kind::Bytes(self.defined.numbers[&len.next()])
             } else {
                 self.kind(&type_name)
             };
@@ -120,39 +78,123 @@ impl Header {
         declare(&mut self.structs, struct_name(&name), named);
     }
 
-    fn function(&mut self, tokens: &mut Tokens) {
-        while self.attributes.contains(tokens.peek()) {
-            tokens.next();
+    /// A function of the archive, or what the header has itself.
+    fn declaration(&mut self, tokens: &mut Tokens) {
+        let told = self.attributes(tokens);
+        if tokens.take("static") {
+            self.own(tokens);
+            return;
         }
         let result = self.kind(&tokens.name());
         let name = tokens.name();
         let mut rest = tokens.group();
         tokens.expect(";");
         let mut parameters = Named::new();
-        while !rest.at_end() {
+        while !rest.at_end() && !rest.take("void") {
             parameters.push(self.parameter(&mut rest));
             assert!(rest.take(",") || rest.at_end(), "{name}: {}", rest.here());
         }
+        told_rightly(&name, &parameters, told);
         let parameters = with_buffers(parameters);
         declare(&mut self.functions, name, Function { parameters, result });
+    }
+
+    /// The attributes that stand here: what they say of the buffers whose first
+    /// parameters have these numbers.
+    fn attributes(&self, tokens: &mut Tokens) -> BTreeMap<u64, (&'static str, u64)> {
+        let mut told = BTreeMap::new();
+        loop {
+            if self.defined.attributes.contains(tokens.peek()) {
+                tokens.next();
+            } else if let Some(access) = self.defined.accesses.get(tokens.peek()) {
+                tokens.next();
+                let mut places = tokens.group();
+                let pointer = places.number();
+                places.expect(",");
+                let before = told.insert(pointer, (*access, places.number()));
+                assert!(before.is_none(), "parameter {pointer} is told of twice");
+            } else {
+                return told;
+            }
+        }
     }
 
     fn parameter(&self, tokens: &mut Tokens) -> (String, Kind) {
         let constant = tokens.take("const");
         let type_name = tokens.name();
-        let kind = if constant || type_name == "uint8_t" {
-            assert_eq!(type_name, "uint8_t", "{}", tokens.here());
-            tokens.expect("*");
-            if constant {
-                Kind::Read
-            } else {
-                Kind::Written
-            }
-        } else {
-            self.kind(&type_name)
-        };
-        (tokens.name(), kind)
+        if !constant && type_name != "uint8_t" {
+            return (tokens.name(), self.kind(&type_name));
+        }
+        assert_eq!(type_name, "uint8_t", "{}", tokens.here());
+        tokens.expect("*");
+        let alone = tokens.take("VESPRULDO_RESTRICT");
+        let name = tokens.name();
+        assert!(alone != constant, "{name}: RESTRICT is for what is written");
+        let kind = if constant { Kind::Read } else { Kind::Written };
+        (name, kind)
     }
+
+    /// A helper, a constant, or what asks for the interface.
+    fn own(&mut self, tokens: &mut Tokens) {
+        if tokens.take("inline") {
+            let mut name = tokens.next();
+            while tokens.peek() != "(" {
+                name = tokens.next();
+            }
+            tokens.skip_group();
+            let body = tokens.group();
+            if name == "vespruldo_words" {
+                self.words = words(body);
+            }
+            assert!(self.own.insert(name), "a helper is there twice");
+        } else if tokens.take("const") {
+            tokens.expect("uint8_t");
+            assert!(self.own.insert(tokens.name()), "a constant is there twice");
+            tokens.skip_through(";");
+        } else {
+            tokens.expect("uint32_t ( * const vespruldo_asks_for ) ( void ) =");
+            assert!(self.asks_for.is_empty(), "two interfaces are asked for");
+            self.asks_for = tokens.name();
+            tokens.expect(";");
+        }
+    }
+}
+
+/// What compilers are told of a function's buffers is what its parameters say: a
+/// pointer to `const` is only read, and the parameter after it is the length.
+fn told_rightly(name: &str, parameters: &Named, told: BTreeMap<u64, (&'static str, u64)>) {
+    let mut buffers = BTreeMap::new();
+    for (place, (parameter, kind)) in (1..).zip(parameters) {
+        if let Kind::Read | Kind::Written = kind {
+            buffers.insert(place, (parameter, *kind == Kind::Read));
+        }
+    }
+    let all = told.keys().eq(buffers.keys());
+    assert!(all, "{name}: compilers are told of other buffers");
+    for (place, (access, len)) in told {
+        let (parameter, read) = buffers[&place];
+        let right = len == place + 1 && read == (access == "read_only");
+        assert!(right, "{name}: what compilers are told of {parameter}");
+    }
+}
+
+/// The words of each number, from the body of the function that answers them.
+fn words(mut body: Tokens) -> BTreeMap<String, String> {
+    body.expect("switch ( number )");
+    let mut cases = body.group();
+    assert!(body.at_end(), "not understood: {}", body.here());
+    let mut words = BTreeMap::new();
+    while cases.take("case") {
+        let name = cases.name();
+        cases.expect(": return");
+        declare(&mut words, name, cases.next().trim_matches('"').to_string());
+        cases.expect(";");
+    }
+    cases.expect("default : return");
+    cases.next();
+    cases.expect(";");
+    assert!(cases.at_end(), "not understood: {}", cases.here());
+    words
 }
 
 /// The name in Rattle of a struct with this name in C.
@@ -176,15 +218,4 @@ pub fn snake_case(name: &str) -> String {
         snake.extend(c.to_lowercase());
     }
     snake
-}
-
-/// The comment in the line that defines this name.
-pub fn comment_beside<'a>(header: &'a str, name: &str) -> &'a str {
-    let start = format!("#define {name} ");
-    let line = header.lines().find(|line| line.starts_with(&start));
-    let comment = line.and_then(|line| line.split_once("/*")?.1.split_once("*/"));
-    comment
-        .unwrap_or_else(|| panic!("no comment beside {name}"))
-        .0
-        .trim()
 }

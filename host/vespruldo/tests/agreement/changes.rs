@@ -9,12 +9,10 @@ use crate::Sources;
 /// Changes that are reported. Each line has the text that is changed, how the
 /// report begins, and what gives way to what; `\n` stands for a line's end.
 const REPORTED: &str = r#"
-header  | vespruldo_seal:             | const uint8_t *data, size_t data_len, =>
 archive | vespruldo_chacha20:         | start: u32, =>
 archive | vespruldo_seal:             | data: *const u8,\n        data_len: usize, =>
 rattle  | vespruldo_seal:             | data: &[u8], =>
 rattle  | vespruldo_drawer_start:     | (reader: u32, => (reader: u32, more: u32,
-header  | vespruldo_lioness_encipher: | const uint8_t *iv => uint8_t *iv
 archive | vespruldo_blake2b:          | digest: *mut => digest: *const
 rattle  | vespruldo_gift_encipher:    | key: &[u8], block => key: &mut [u8], block
 header  | vespruldo_chacha20:         | uint32_t start => uint32_t counter
@@ -25,34 +23,75 @@ rattle  | vespruldo_key_find:         | class: u16 => class_number: u16
 header  | vespruldo_key_find:         | uint16_t class => uint32_t class
 archive | vespruldo_drawer_iv:        | -> Drawn<48> => -> Drawn<12>
 rattle  | vespruldo_drawer_iv:        | -> DrawnIv => -> Drawn
+rattle  | vespruldo_same:             | b: &[u8]) -> bool => b: &[u8]) -> u32
+rattle  | vespruldo_drawer_load:      | -> Loaded => -> Stored
 header  | vespruldo_open:             | uint32_t vespruldo_open( => uint32_t vespruldo_o(
 archive | vespruldo_open:             | fn vespruldo_open( => fn vespruldo_o(
 rattle  | vespruldo_open:             | fn vespruldo_open( => fn vespruldo_o(
 symbols | vespruldo_open:             | T vespruldo_open\n => T vespruldo_o\n
 symbols | more:                       | T vespruldo_open\n => T vespruldo_open\n0 T more\n
+symbols | vespruldo_interface_1:      | T vespruldo_interface_1\n => T vespruldo_interface_2\n
 archive | Drawer:                     | reader: u32,\n    pub count: u64 => count: u64,\n    pub reader: u32
-header  | Found:                      | number; /* DONE, => answer; /* DONE,
+archive | Stored:                     | bytes: [u8; 44] => bytes: [u8; 45]
+header  | Found:                      | number; /* DONE, BOOK => answer; /* DONE, BOOK
 header  | DrawnIv:                    | bytes[VESPRULDO_LIONESS_IV => bytes[VESPRULDO_LIONESS_KEY
-header  | BookForm:                   | VESPRULDO_BOOK_FORM 10 => VESPRULDO_BOOK_FORM 12
-header  | DrawerSpent:                | /* drawer spent => /* drawer empty
+header  | BookForm:                   | VESPRULDO_BOOK_FORM 10 => VESPRULDO_BOOK_FORM 13
+header  | DrawerSpent:                | return "drawer spent" => return "drawer empty"
+header  | LeftOver:                   | case VESPRULDO_LEFT_OVER: => case VESPRULDO_OTHER:
 header  | ClassLost:                  | VESPRULDO_CLASS_MISSING 11 => VESPRULDO_CLASS_LOST 11
-header  | TEXT_MAX:                   | TEXT_MAX 1048576 => TEXT_MAX 1048577
+header  | TEXT_MAX:                   | VESPRULDO_TEXT_MAX 1048576 => VESPRULDO_TEXT_MAX 1048577
+header  | CARD_EXTRA:                 | CARD_EXTRA 30 => CARD_EXTRA 28
 sizes   | LIONESS_IV_BYTES:           | LIONESS_IV_BYTES: usize = 48; => LIONESS_IV_BYTES: usize = 12;
 sizes   | TAG_BYTES:                  | pub const TAG_BYTES: usize = 16; =>
 sizes   | MORE_BYTES:                 | pub const TAG_BYTES => pub const MORE_BYTES: usize = 1;pub const TAG_BYTES
 "#;
 
+/// Changes of the interface, and of what has its number.
+const INTERFACE: &str = r#"
+header  | vespruldo_chacha20 changed       | uint32_t start => uint64_t start
+header  | vespruldo_key_find changed       | uint16_t class_number => uint32_t class_number
+header  | vespruldo_drawer_iv changed      | vespruldo_drawn_iv vespruldo_d => vespruldo_drawn vespruldo_d
+header  | vespruldo_drawer_start changed   | uint32_t reader, uint64_t count) => uint64_t count, uint32_t reader)
+header  | vespruldo_same changed           | bool vespruldo_same( => uint32_t vespruldo_same(
+header  | vespruldo_drawer changed         | uint64_t count;\n} => uint32_t count;\n}
+header  | vespruldo_stored changed         | } vespruldo_stored => uint32_t more;} vespruldo_stored
+header  | vespruldo_version is gone        | vespruldo_version(void); => vespruldo_v(void);
+header  | vespruldo_v is new               | vespruldo_version(void); => vespruldo_v(void);
+record  | vespruldo_same is new            | vespruldo_same( => vespruldo_other(
+record  | vespruldo_other is gone          | vespruldo_same( => vespruldo_other(
+record  | vespruldo_found changed          | book; at 4 => book; at 8
+record  | vespruldo_found changed          | offset; at 8\n}; 16 bytes => offset; at 8\n}; 24 bytes
+header  | the header does not declare and  | VESPRULDO_INTERFACE 1 => VESPRULDO_INTERFACE 2
+header  | the header does not declare and  | = vespruldo_interface_1; => = vespruldo_version;
+header  | tests/agreement/interface_1.txt  | VESPRULDO_INTERFACE 1 => VESPRULDO_INTERFACE 2
+build   | build.rs looks for another       | INTERFACE: &str = "1" => INTERFACE: &str = "2"
+"#;
+
 /// Changes that are not understood, and how the complaint about each begins.
 const STRANGE: &str = r#"
 header  | assertion `left == right` failed: what follows the pointer iv    | iv_len => iv_length
-header  | key_len is the length of no buffer       | const uint8_t *key, size_t => size_t
+header  | vespruldo_card_seal: compilers are told of other | const uint8_t *key, size_t => size_t
+header  | vespruldo_card_seal: compilers are told of other | const uint8_t *data, size_t data_len, =>
+header  | vespruldo_card_seal: compilers are told of other | VESPRULDO_WRITES(9, 10)\n =>
+header  | vespruldo_card_seal: what compilers are told of key   | VESPRULDO_READS(1, 2) => VESPRULDO_READS(1, 4)
+header  | vespruldo_card_seal: what compilers are told of text  | VESPRULDO_READS(7, 8) => VESPRULDO_WRITES(7, 8)
+header  | vespruldo_card_seal: what compilers are told of room  | VESPRULDO_WRITES(9, 10) => VESPRULDO_READS(9, 10)
+header  | parameter 1 is told of twice             | VESPRULDO_READS(3, 4) => VESPRULDO_READS(1, 2)
+header  | iv: RESTRICT is for what is written | const uint8_t *iv => uint8_t *iv
+header  | room: RESTRICT is for what is written | uint8_t *VESPRULDO_RESTRICT room => uint8_t *room
+header  | key: RESTRICT is for what is written | const uint8_t *key => const uint8_t *VESPRULDO_RESTRICT key
+header  | not understood: #define VESPRULDO_READS  | access(read_only => access(none
 archive | assertion `left == right` failed: what follows the pointer iv    | iv_len: usize, =>
 archive | assertion `left == right` failed: what follows the pointer nonce | nonce_len => key_len
+archive | key_len is the length of no buffer       | key: *const u8,\n =>
 header  | not understood: the type int             | uint32_t start => int start
-header  | not understood: the type static          | uint32_t vespruldo_open( => static uint32_t vespruldo_open(
+header  | ( is expected, not vespruldo_version     | uint32_t vespruldo_version( => static uint32_t vespruldo_version(
 header  | not understood: #include <stdio.h>       | <stddef.h> => <stdio.h>
 header  | not understood: int more(void);          | extern "C" { => int more(void);
-header  | vespruldo_seal is declared twice         | vespruldo_open( => vespruldo_seal(
+header  | not understood: #if defined(__clang__)   | #if defined(__GNUC__) => #if defined(__clang__)
+header  | not understood: #define VESPRULDO_KEPT   | VESPRULDO_KEPT __attribute__((used))\n => VESPRULDO_KEPT\n
+header  | vespruldo_seal is declared twice         | uint32_t vespruldo_open( => uint32_t vespruldo_seal(
+header  | default is expected, not return          | default: =>
 archive | not understood: the type i32             | start: u32 => start: i32
 archive | "C" is expected, not "system"            | extern "C" => extern "system"
 archive | struct is expected, not const            | pub struct Found => pub const Found
@@ -61,6 +100,7 @@ rattle  | # is expected, not pub extern            | #[no_mangle] =>
 rattle  | "C" is expected, not "rust"              | extern "C" => extern "rust"
 symbols | not understood: 0000000000000000 D       | T vespruldo_open\n => D vespruldo_open\n
 sizes   | a number is expected, not KEY            | usize = 16; => usize = KEY;
+record  | tests/agreement/interface_1.txt has      | vespruldo_seal( => vespruldo_open(
 "#;
 
 /// The text with `new` in place of `old`, which it must have.
@@ -75,8 +115,10 @@ impl Sources {
             "header" => &mut self.header,
             "archive" => &mut self.archive,
             "sizes" => &mut self.sizes,
+            "build" => &mut self.build,
             "rattle" => &mut self.rattle,
             "symbols" => &mut self.symbols,
+            "record" => &mut self.record,
             _ => panic!("{name} is none of the texts"),
         }
     }
@@ -98,7 +140,11 @@ impl Sources {
 #[test]
 fn every_change_is_reported() {
     let sources = Sources::read();
-    for line in REPORTED.trim().lines() {
+    for line in [REPORTED, INTERFACE]
+        .map(str::trim)
+        .iter()
+        .flat_map(|table| table.lines())
+    {
         let (sources, said) = sources.changed(line);
         let reported = sources.disagreements();
         let is_it = reported.iter().any(|report| report.starts_with(said));
@@ -118,17 +164,18 @@ fn strange_declarations_are_not_passed_over() {
 }
 
 /// The C compiler is asked, not only the text: fields that are exchanged in the
-/// header lie elsewhere than in Rust.
+/// header lie elsewhere than in Rust, and another case gives other words.
 #[test]
-fn other_layouts_are_reported() {
+fn other_layouts_and_words_are_reported() {
     let [old, new] = [
         "uint32_t reader;\n    uint64_t count;",
         "uint64_t count;\n    uint32_t reader;",
     ];
     let exchanged = altered(&Sources::read().header, old, new);
+    let exchanged = altered(&exchanged, "bytes left over", "left over bytes");
     let reported = layout::disagreements(&exchanged, "agreement-exchanged");
-    for field in ["vespruldo_drawer.reader:", "vespruldo_drawer.count:"] {
-        let is_it = reported.iter().any(|report| report.starts_with(field));
+    for said in ["vespruldo_drawer.reader:", "vespruldo_drawer.count:", "15:"] {
+        let is_it = reported.iter().any(|report| report.starts_with(said));
         assert!(is_it, "{reported:?}");
     }
 }

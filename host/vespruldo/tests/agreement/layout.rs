@@ -1,23 +1,27 @@
-//! Layouts and numbers as the C compiler sees them, beside those of Rust.
+//! Layouts, numbers and words as the C compiler sees them, beside those of Rust.
 
 use std::collections::BTreeMap;
 use std::fs;
 use std::mem::{align_of, offset_of, size_of};
 use std::path::{Path, PathBuf};
 
-use vespruldo::archive::{Drawer, Drawn, Found};
+use vespruldo::archive::{Drawer, Drawn, Found, Loaded, Stored};
+use vespruldo::Refusal;
 
 use crate::c::{c_name, Header};
 use crate::model::differences;
 use crate::tokens::number;
-use crate::tools::{command, run};
+use crate::tools::{archive, command, run};
 
 /// By the name in C: of a struct its size and alignment, of a field its offset
 /// and size.
-type Layouts = BTreeMap<String, [u64; 2]>;
+pub type Layouts = BTreeMap<String, [u64; 2]>;
+
+/// The words of which numbers are compared.
+const NUMBERS: u32 = 256;
 
 /// A program that prints a line for each struct, field and number of the
-/// header.
+/// header, and the words of each number that is answered and of others.
 fn program(header: &Header) -> String {
     let mut before = String::from("#include <stdio.h>\n#include \"vespruldo.h\"\n");
     let mut body = String::new();
@@ -41,8 +45,12 @@ fn program(header: &Header) -> String {
             print(&format!("{name}.{field}"), &[offset, size]);
         }
     }
-    for name in header.numbers.keys() {
+    for name in header.defined.numbers.keys() {
         print(name, &[name.to_string()]);
+    }
+    for number in 0..NUMBERS {
+        let words = format!("vespruldo_words({number})");
+        body += &format!("    printf(\"{number}: %s\\n\", {words});\n");
     }
     format!("{before}int main(void)\n{{\n{body}    return 0;\n}}\n")
 }
@@ -61,6 +69,8 @@ fn printed(text: &str, header: &Header, folder: &str) -> String {
     compile
         .extend(["-std=c99", "-Wall", "-Wextra", "-Werror", "-pedantic", "-o"].map(String::from));
     compile.extend(["layout", "layout.c"].map(in_dir));
+    // The header asks for the archive's interface.
+    compile.push(archive());
     run(&compile);
     let mut start = command("VESPRULDO_RUNNER", "");
     start.push(in_dir("layout"));
@@ -87,13 +97,26 @@ macro_rules! layouts {
     };
 }
 
-fn layouts_in_rust() -> Layouts {
+pub fn layouts_in_rust() -> Layouts {
     let mut all = Layouts::new();
     all.extend(layouts!("vespruldo_drawer", Drawer, reader count));
     all.extend(layouts!("vespruldo_drawn", Drawn<12>, number bytes next));
     all.extend(layouts!("vespruldo_drawn_iv", Drawn<48>, number bytes next));
+    all.extend(layouts!("vespruldo_stored", Stored, bytes));
+    all.extend(layouts!("vespruldo_loaded", Loaded, number drawer));
     all.extend(layouts!("vespruldo_found", Found, number book offset));
     all
+}
+
+/// What Rust says of each number.
+fn words_in_rust() -> BTreeMap<String, String> {
+    let words = |number: u32| match Refusal::try_from(number) {
+        Ok(refusal) => refusal.to_string(),
+        Err(_) if number == 0 => "done".to_string(),
+        Err(why) => why.to_string().replace(&format!("{number} is "), ""),
+    };
+    let all = (0..NUMBERS).map(|number| (number.to_string(), words(number)));
+    all.collect()
 }
 
 /// Where the C compiler with this header and Rust, or the C compiler and the
@@ -102,7 +125,12 @@ pub fn disagreements(text: &str, folder: &str) -> Vec<String> {
     let header = Header::of(text);
     let mut layouts = Layouts::new();
     let mut numbers = BTreeMap::new();
+    let mut all_words = BTreeMap::new();
     for line in printed(text, &header, folder).lines() {
+        if let Some((number, words)) = line.split_once(": ") {
+            all_words.insert(number.to_string(), words.to_string());
+            continue;
+        }
         let words: Vec<&str> = line.split(' ').collect();
         match words[..] {
             [name, value] => {
@@ -115,10 +143,11 @@ pub fn disagreements(text: &str, folder: &str) -> Vec<String> {
             _ => panic!("not understood: {line}"),
         }
     }
-    let mut all = differences([("C", &layouts), ("Rust", &layouts_in_rust())]);
-    all.extend(differences([
-        ("C", &numbers),
-        ("the header", &header.numbers),
-    ]));
-    all
+    let of_header = &header.defined.numbers;
+    [
+        differences([("C", &layouts), ("Rust", &layouts_in_rust())]),
+        differences([("C", &numbers), ("the header", of_header)]),
+        differences([("C", &all_words), ("Rust", &words_in_rust())]),
+    ]
+    .concat()
 }

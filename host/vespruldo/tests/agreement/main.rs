@@ -1,23 +1,26 @@
 //! The header, the archive, the Rust declarations and the Rattle source agree on
 //! every function, with the names of its parameters; header and Rust on every
-//! struct, length and refusal.
+//! struct, length and refusal; and all of them on the version and on the
+//! interface, whose record stands beside these tests.
 
 mod c;
 mod changes;
+mod interface;
 mod layout;
 mod model;
+mod preprocessor;
 mod rattle;
 mod rust;
 mod tokens;
 mod tools;
 
-use std::collections::BTreeMap;
+use std::collections::{BTreeMap, BTreeSet};
 use std::fs;
-use std::path::{Path, PathBuf};
 
-use c::{comment_beside, Header};
+use c::Header;
 use model::{camel_case, differences, rename};
-use vespruldo::Refusal;
+use tools::in_crate;
+use vespruldo::{archive, Refusal};
 
 /// The parameter that has another name in the header: its function, its name
 /// there and its name elsewhere, which is a reserved word of C++.
@@ -29,14 +32,12 @@ struct Sources {
     header: String,
     archive: String,
     sizes: String,
+    build: String,
     rattle: String,
     /// What the archive exports, as `nm` lists it.
     symbols: String,
-}
-
-/// A path that counts from the crate's folder.
-fn in_crate(path: &str) -> PathBuf {
-    Path::new(env!("CARGO_MANIFEST_DIR")).join(path)
+    /// The interface as it was recorded.
+    record: String,
 }
 
 impl Sources {
@@ -49,13 +50,16 @@ impl Sources {
             header: text("../../include/vespruldo.h"),
             archive: text("src/archive.rs"),
             sizes: text("src/sizes.rs"),
+            build: text("build.rs"),
             rattle: text("../../crates/vespruldo/src/lib.rt"),
             symbols: exported(),
+            record: text(interface::RECORD),
         }
     }
 
     fn disagreements(&self) -> Vec<String> {
         let mut header = Header::of(&self.header);
+        let interface = interface::disagreements(&header, &self.record, &self.build);
         rename(&mut header.functions, IN_HEADER);
         let archive = rust::Archive::of(&self.archive);
         let rattle = rattle::functions(&self.rattle);
@@ -70,25 +74,29 @@ impl Sources {
             differences([structs, ("Rust", &archive.structs)]),
             self.other_refusals(&header),
             self.other_sizes(&header),
+            interface,
         ]
         .concat()
     }
 
     fn other_refusals(&self, header: &Header) -> Vec<String> {
         let in_header = refusals(header).map(|(name, number)| {
-            let words = comment_beside(&self.header, name).to_string();
+            let words = header.words.get(name).cloned();
             (camel_case(without_prefix(name)), (number, words))
         });
-        let in_rust = Refusal::ALL.map(|refusal| {
+        let in_rust = Refusal::ALL.iter().map(|refusal| {
             let number = u64::from(refusal.number());
-            (format!("{refusal:?}"), (number, refusal.to_string()))
+            (format!("{refusal:?}"), (number, Some(refusal.to_string())))
         });
-        let in_rust = BTreeMap::from(in_rust);
-        differences([("the header", &in_header.collect()), ("Rust", &in_rust)])
+        differences([
+            ("the header", &in_header.collect()),
+            ("Rust", &in_rust.collect()),
+        ])
     }
 
     fn other_sizes(&self, header: &Header) -> Vec<String> {
-        let sizes = header.numbers.iter().filter(|(name, _)| is_size(name));
+        let numbers = &header.defined.numbers;
+        let sizes = numbers.iter().filter(|(name, _)| is_size(name));
         let sizes = sizes.map(|(name, value)| (without_prefix(name).to_string(), *value));
         let in_rust = rust::sizes(&self.sizes);
         differences([("the header", &sizes.collect()), ("Rust", &in_rust)])
@@ -101,16 +109,17 @@ fn without_prefix(name: &str) -> &str {
 }
 
 fn is_size(name: &str) -> bool {
-    ["_BYTES", "_MIN", "_MAX"]
+    ["_BYTES", "_MIN", "_MAX", "_EXTRA"]
         .iter()
         .any(|end| name.ends_with(end))
 }
 
-/// The header's numbers that are neither lengths nor the three others: what is
-/// answered where nothing is refused, and the two books.
+/// The header's numbers that are neither lengths nor the five others: what is
+/// answered where nothing is refused, the two books, version and interface.
 fn refusals(header: &Header) -> impl Iterator<Item = (&str, u64)> {
-    let others = ["DONE", "THIS_TERM", "LAST_TERM"];
+    let others = ["DONE", "THIS_TERM", "LAST_TERM", "VERSION", "INTERFACE"];
     let numbers = header
+        .defined
         .numbers
         .iter()
         .map(|(name, number)| (name.as_str(), *number));
@@ -119,12 +128,8 @@ fn refusals(header: &Header) -> impl Iterator<Item = (&str, u64)> {
 
 /// Lists what the archive that is linked exports.
 fn exported() -> String {
-    // As the crate's build script finds it, when it is built.
-    let dir = option_env!("VESPRULDO_LIB_DIR").filter(|dir| !dir.is_empty());
-    let archive = in_crate(dir.unwrap_or("../../target/staticlib")).join("libvespruldo.a");
-    let archive = archive.display().to_string();
     let mut list = tools::command("NM", "nm");
-    list.extend(["-g", "--defined-only", &archive].map(String::from));
+    list.extend(["-g", "--defined-only", &tools::archive()].map(String::from));
     tools::run(&list)
 }
 
@@ -146,18 +151,49 @@ fn symbols(list: &str) -> BTreeMap<String, ()> {
 #[test]
 fn all_declarations_agree() {
     let sources = Sources::read();
-    assert_eq!(sources.disagreements(), [""; 0]);
+    let reported = sources.disagreements();
+    assert!(reported.is_empty(), "{}", reported.join("\n\n"));
     let header = Header::of(&sources.header);
-    assert_eq!(header.functions.len(), 14);
-    assert_eq!(header.structs.len(), 4);
+    assert_eq!(header.functions.len(), 23);
+    assert_eq!(header.structs.len(), 6);
+    let own = ["found_key", "no_book", "words"].map(|name| format!("vespruldo_{name}"));
+    assert_eq!(header.own, BTreeSet::from(own));
     // Document 01's table, and the two books as `Found` has them.
-    assert_eq!(header.numbers["VESPRULDO_DONE"], 0);
-    assert_eq!(header.numbers["VESPRULDO_THIS_TERM"], 0);
-    assert_eq!(header.numbers["VESPRULDO_LAST_TERM"], 1);
+    assert_eq!(header.number("DONE"), 0);
+    assert_eq!(header.number("THIS_TERM"), 0);
+    assert_eq!(header.number("LAST_TERM"), 1);
 }
 
 #[test]
-fn the_c_compiler_sees_the_same_layouts_and_numbers() {
+fn the_c_compiler_sees_the_same_layouts_numbers_and_words() {
     let header = Sources::read().header;
-    assert_eq!(layout::disagreements(&header, "agreement"), [""; 0]);
+    let reported = layout::disagreements(&header, "agreement");
+    assert!(reported.is_empty(), "{}", reported.join("\n"));
+}
+
+/// As the header counts it: 10000 times the first number of a version, 100 times
+/// the second, and the third.
+fn version_number(text: &str) -> u64 {
+    let parts = text.split('.').map(tokens::number);
+    parts.fold(0, |number, part| 100 * number + part)
+}
+
+#[test]
+fn all_have_one_version() {
+    assert_eq!(version_number("1.2.3"), 10_203);
+    let version = env!("CARGO_PKG_VERSION");
+    let header = Header::of(&Sources::read().header);
+    assert_eq!(header.defined.texts["VESPRULDO_VERSION_TEXT"], version);
+    assert_eq!(header.number("VERSION"), version_number(version));
+    // SAFETY: it takes nothing.
+    let of_archive = unsafe { archive::vespruldo_version() };
+    assert_eq!(u64::from(of_archive), version_number(version));
+}
+
+#[test]
+fn all_have_one_interface() {
+    let header = Header::of(&Sources::read().header);
+    // SAFETY: it takes nothing.
+    let answered = unsafe { archive::vespruldo_interface_1() };
+    assert_eq!(u64::from(answered), header.number("INTERFACE"));
 }

@@ -9,6 +9,7 @@ pub enum Kind {
     Read,
     /// A buffer that may be written, or a pointer to one.
     Written,
+    Bool,
     U16,
     U32,
     U64,

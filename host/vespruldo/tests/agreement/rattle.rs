@@ -45,10 +45,13 @@ fn kind(tokens: &mut Tokens) -> Kind {
         return if written { Kind::Written } else { Kind::Read };
     }
     match tokens.name().as_str() {
+        "bool" => Kind::Bool,
         "u16" => Kind::U16,
         "u32" => Kind::U32,
         "u64" => Kind::U64,
-        name @ ("Drawer" | "Drawn" | "DrawnIv" | "Found") => Kind::Struct(name.to_string()),
+        name @ ("Drawer" | "Drawn" | "DrawnIv" | "Stored" | "Loaded" | "Found") => {
+            Kind::Struct(name.to_string())
+        }
         other => panic!("not understood: the type {other}"),
     }
 }

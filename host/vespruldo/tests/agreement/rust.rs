@@ -106,6 +106,7 @@ fn kind(tokens: &mut Tokens) -> Kind {
         return Kind::Bytes(array.number());
     }
     match tokens.name().as_str() {
+        "bool" => Kind::Bool,
         "u16" => Kind::U16,
         "u32" => Kind::U32,
         "u64" => Kind::U64,
@@ -117,7 +118,7 @@ fn kind(tokens: &mut Tokens) -> Kind {
             let drawn = DRAWN.iter().find(|drawn| drawn.0 == len);
             Kind::Struct(drawn.expect("a length of Drawn").1.to_string())
         }
-        name @ ("Drawer" | "Found") => Kind::Struct(name.to_string()),
+        name @ ("Drawer" | "Stored" | "Loaded" | "Found") => Kind::Struct(name.to_string()),
         other => panic!("not understood: the type {other}"),
     }
 }

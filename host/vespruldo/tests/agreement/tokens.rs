@@ -25,7 +25,7 @@ pub fn without_comments(text: &str) -> String {
     }
 }
 
-fn in_word(c: char) -> bool {
+pub fn in_word(c: char) -> bool {
     c.is_alphanumeric() || c == '_'
 }
 

@@ -16,6 +16,10 @@ pub const LONGEST_DATA: usize = 65_536;
 pub const LONGEST_TEXT: usize = 1_048_576;
 pub const LONGEST_BLOCK: usize = 1_048_608;
 
+// Of a card: the longest text, and what it has besides its ciphertext.
+pub const LONGEST_CARD_TEXT: usize = 65_535;
+pub const CARD_EXTRA: usize = 30;
+
 /// The document's number for an outcome. The safe functions take every number
 /// to an outcome of its own or panic, so nothing is lost.
 pub fn number<T>(outcome: Result<T, Refusal>) -> u32 {
@@ -101,9 +105,9 @@ pub struct Pair<const R: usize, const W: usize> {
     seconds: Work<R, W>,
     /// The number that the document asks for, from the lengths alone.
     expected: Box<dyn Fn([usize; R], [usize; W]) -> u32>,
-    /// From the lengths read: how many bytes at the front of the first buffer
-    /// worked in are 0 after a refusal with 7.
-    zeroed: fn([usize; R]) -> usize,
+    /// From the lengths: how many bytes at the front of the first buffer worked
+    /// in are 0 after a refusal with 7.
+    zeroed: fn([usize; R], [usize; W]) -> usize,
 }
 
 impl<const R: usize, const W: usize> Pair<R, W> {
@@ -118,12 +122,12 @@ impl<const R: usize, const W: usize> Pair<R, W> {
             ours: Box::new(ours),
             seconds: Box::new(seconds),
             expected: Box::new(expected),
-            zeroed: |_| 0,
+            zeroed: |_, _| 0,
         }
     }
 
     /// The same with a refusal that leaves zeros.
-    pub fn zeroing(self, zeroed: fn([usize; R]) -> usize) -> Pair<R, W> {
+    pub fn zeroing(self, zeroed: fn([usize; R], [usize; W]) -> usize) -> Pair<R, W> {
         Pair { zeroed, ..self }
     }
 
@@ -142,7 +146,7 @@ impl<const R: usize, const W: usize> Pair<R, W> {
         if number != 0 {
             let mut left = before;
             if number == 7 {
-                left[0].lent()[..(self.zeroed)(read_lens)].fill(0);
+                left[0].lent()[..(self.zeroed)(read_lens, lens)].fill(0);
             }
             assert!(seconds == left, "what a refusal leaves: {case}");
         }

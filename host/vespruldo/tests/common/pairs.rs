@@ -1,23 +1,29 @@
 //! The archive's functions that answer a number, each beside the same function
 //! of the second implementation.
 
-use second::{blake, chacha, gift, hyena, lioness};
+use second::{blake, card, chacha, gift, hyena, lioness};
 use vespruldo::slices;
 
-use super::{number, Pair, LONGEST_BLOCK, LONGEST_DATA, LONGEST_TEXT};
+use super::{
+    number, Pair, CARD_EXTRA, LONGEST_BLOCK, LONGEST_CARD_TEXT, LONGEST_DATA, LONGEST_TEXT,
+};
 
-/// The number for these lengths: the place, counted from 1, of the first that
-/// is not allowed, or 0.
+/// The number for these lengths: that of the first that is not allowed, or 0.
 pub fn judged([key, nonce, data, text, tag, room]: [usize; 6]) -> u32 {
     let wrong = [
-        key != 16,
-        nonce != 12,
-        data > LONGEST_DATA,
-        text > LONGEST_TEXT,
-        tag != 16,
-        room < text,
+        (1, key != 16),
+        (2, nonce != 12),
+        (3, data > LONGEST_DATA),
+        (4, text > LONGEST_TEXT),
+        (5, tag != 16),
+        (6, room < text),
     ];
-    let first = (1..).zip(wrong).find(|(_, wrong)| *wrong);
+    first_wrong(wrong)
+}
+
+/// The number that stands beside the first of these that is so, or 0.
+fn first_wrong<const N: usize>(wrong: [(u32, bool); N]) -> u32 {
+    let first = wrong.into_iter().find(|(_, wrong)| *wrong);
     first.map_or(0, |(number, _)| number)
 }
 
@@ -52,7 +58,7 @@ pub fn open() -> Pair<5, 1> {
             judged_with_wrong_tag([key, nonce, data, text, tag, room])
         },
     )
-    .zeroing(|[_, _, _, text, _]| text)
+    .zeroing(|[_, _, _, text, _], _| text)
 }
 
 pub fn seal_short() -> Pair<3, 2> {
@@ -71,7 +77,83 @@ pub fn open_short() -> Pair<4, 1> {
         |[key, nonce, text, tag], [room]| hyena::open_short(key, nonce, text, tag, room),
         |[key, nonce, text, tag], [room]| judged_with_wrong_tag([key, nonce, 0, text, tag, room]),
     )
-    .zeroing(|[_, _, text, _]| text)
+    .zeroing(|[_, _, text, _], _| text)
+}
+
+pub fn seal_in_place() -> Pair<3, 2> {
+    Pair::new(
+        "seal_in_place",
+        |[key, nonce, data], [buffer, tag]| {
+            number(slices::seal_in_place(key, nonce, data, buffer, tag))
+        },
+        |[key, nonce, data], [buffer, tag]| hyena::seal_in_place(key, nonce, data, buffer, tag),
+        |[key, nonce, data], [buffer, tag]| judged([key, nonce, data, buffer, tag, buffer]),
+    )
+}
+
+pub fn open_in_place() -> Pair<4, 1> {
+    Pair::new(
+        "open_in_place",
+        |[key, nonce, data, tag], [buffer]| {
+            number(slices::open_in_place(key, nonce, data, buffer, tag))
+        },
+        |[key, nonce, data, tag], [buffer]| hyena::open_in_place(key, nonce, data, buffer, tag),
+        |[key, nonce, data, tag], [buffer]| {
+            judged_with_wrong_tag([key, nonce, data, buffer, tag, buffer])
+        },
+    )
+    .zeroing(|_, [buffer]| buffer)
+}
+
+fn judged_card_seal([key, nonce, data, text]: [usize; 4], [room]: [usize; 1]) -> u32 {
+    let wrong = [
+        (1, key != 16),
+        (2, nonce != 12),
+        (3, data > LONGEST_DATA),
+        (4, text > LONGEST_CARD_TEXT),
+        (6, room < text + CARD_EXTRA),
+    ];
+    first_wrong(wrong)
+}
+
+pub fn card_seal() -> Pair<4, 1> {
+    Pair::new(
+        "card_seal",
+        |[key, nonce, data, text], [room]| number(slices::card_seal(key, nonce, data, text, room)),
+        |[key, nonce, data, text], [room]| card::seal_into(key, nonce, data, text, room),
+        judged_card_seal,
+    )
+}
+
+/// The number for these lengths in opening a card that says that its text has
+/// `text` bytes; 0 stands for a right tag.
+pub fn judged_card_open([key, data, card]: [usize; 3], text: usize, room: usize) -> u32 {
+    let wrong = [
+        (1, key != 16),
+        (3, data > LONGEST_DATA),
+        (12, card < text + CARD_EXTRA),
+        (15, card > text + CARD_EXTRA),
+        (6, room < text),
+    ];
+    first_wrong(wrong)
+}
+
+/// What is expected of lengths alone is for a card that is whole, or as long as
+/// a card can be: of random-looking ones hardly any is.
+pub fn card_open() -> Pair<3, 1> {
+    Pair::new(
+        "card_open",
+        |[key, data, card], [room]| number(slices::card_open(key, data, card, room)),
+        |[key, data, card], [room]| card::open_into(key, data, card, room),
+        |read_lens, [room]| {
+            let text = read_lens[2].saturating_sub(CARD_EXTRA);
+            match judged_card_open(read_lens, text.min(LONGEST_CARD_TEXT), room) {
+                0 => 7,
+                refusal => refusal,
+            }
+        },
+    )
+    .zeroing(|[_, _, card], _| card - CARD_EXTRA)
 }
 
 fn judged_gift([key_len]: [usize; 1], [block_len]: [usize; 1]) -> u32 {

@@ -1,0 +1,151 @@
+//! A program without `std`, which tools/host-tests builds and runs: it brings its
+//! own panic handler, and so links only if the crate does without `std` too. It
+//! brings a heap only with the feature `alloc`, and so links without that feature
+//! only if the crate needs none.
+//!
+//! Its exit status is 0, or the number of the refusal that should not have come.
+
+#![no_std]
+#![no_main]
+
+use core::panic::PanicInfo;
+
+use vespruldo::{
+    blake2b, chacha20, chacha20_again, find_key, gift_decipher, gift_encipher, lioness_decipher,
+    lioness_encipher, open_in_place, same, seal_in_place, slices, Data, Drawer, Refusal, StreamKey,
+    WideKey,
+};
+
+#[link(name = "c")]
+extern "C" {
+    fn abort() -> !;
+}
+
+#[panic_handler]
+fn panicked(_: &PanicInfo) -> ! {
+    // SAFETY: it takes nothing.
+    unsafe { abort() }
+}
+
+/// Rust's own library was compiled so that it could unwind, and names this; here
+/// nothing unwinds.
+#[no_mangle]
+extern "C" fn rust_eh_personality() {}
+
+const SONG: [u8; 40] = *b"Three ducks went out one day, over hill.";
+const LABEL: Data = Data(b"song 1");
+
+/// A card, sealed in place and as a whole, under a key of a book.
+fn cards(drawer: &mut Drawer) -> Result<(), Refusal> {
+    let mut book = [3; 20];
+    book[..4].copy_from_slice(&[1, 0, 7, 0]);
+    let key = find_key(&book, None, 7)?;
+
+    let mut buffer = SONG;
+    let (nonce, tag) = seal_in_place(key, drawer.draw()?, LABEL, &mut buffer)?;
+    assert_ne!(buffer, SONG);
+    let mut card = [0; 70];
+    slices::card_seal(key.as_bytes(), nonce.as_bytes(), LABEL.0, &SONG, &mut card)?;
+    assert_eq!(card[14..54], buffer);
+    open_in_place(key, &nonce, LABEL, &mut buffer, &tag)?;
+    assert_eq!(buffer, SONG);
+
+    let mut text = [0; 40];
+    slices::card_open(key.as_bytes(), LABEL.0, &card, &mut text)?;
+    assert_eq!(text, SONG);
+    card[20] ^= 1;
+    let refused = slices::card_open(key.as_bytes(), LABEL.0, &card, &mut text);
+    assert_eq!(refused, Err(Refusal::WrongTag));
+
+    let mut block = [1; 16];
+    gift_encipher(key, &mut block);
+    gift_decipher(key, &mut block);
+    assert_eq!(block, [1; 16]);
+    Ok(())
+}
+
+/// A wide block, a key stream, and digests that are compared.
+fn others(drawer: &mut Drawer) -> Result<(), Refusal> {
+    let mut block = SONG;
+    let key = WideKey::from([1; 128]);
+    let iv = lioness_encipher(&key, drawer.draw_iv()?, &mut block)?;
+    assert_ne!(block, SONG);
+    lioness_decipher(&key, &iv, &mut block)?;
+    assert_eq!(block, SONG);
+
+    let key = StreamKey::from([1; 32]);
+    let nonce = chacha20(&key, drawer.draw()?, 0, &mut block)?;
+    assert_ne!(block, SONG);
+    chacha20_again(&key, &nonce, 0, &mut block)?;
+    assert_eq!(block, SONG);
+
+    let [mut first, mut second] = [[0; 32]; 2];
+    blake2b(&[1; 32], &SONG, &mut first)?;
+    blake2b(&[1; 32], &block, &mut second)?;
+    assert!(same(&first, &second));
+    Ok(())
+}
+
+#[cfg(not(feature = "alloc"))]
+fn with_a_heap(_: &mut Drawer) -> Result<(), Refusal> {
+    Ok(())
+}
+
+#[cfg(feature = "alloc")]
+use heap::with_a_heap;
+
+#[cfg(feature = "alloc")]
+mod heap {
+    use core::alloc::{GlobalAlloc, Layout};
+    use core::ffi::c_void;
+
+    use vespruldo::{open, seal, Data, Drawer, Key, Refusal, Sealed};
+
+    use super::{LABEL, SONG};
+
+    #[link(name = "c")]
+    extern "C" {
+        fn malloc(len: usize) -> *mut c_void;
+        fn free(place: *mut c_void);
+    }
+
+    /// The C library's heap, which aligns to 16 bytes, more than is asked for.
+    struct Heap;
+
+    // SAFETY: what `malloc` answers is as long as is asked for, or null, and is
+    // freed once.
+    unsafe impl GlobalAlloc for Heap {
+        unsafe fn alloc(&self, layout: Layout) -> *mut u8 {
+            malloc(layout.size()).cast()
+        }
+
+        unsafe fn dealloc(&self, place: *mut u8, _: Layout) {
+            free(place.cast());
+        }
+    }
+
+    #[global_allocator]
+    static HEAP: Heap = Heap;
+
+    pub fn with_a_heap(drawer: &mut Drawer) -> Result<(), Refusal> {
+        let key = Key::from([1; 16]);
+        let stored = seal(&key, drawer.draw()?, LABEL, &SONG)?.to_bytes()?;
+        let card = Sealed::from_bytes(&stored)?;
+        assert_eq!(open(&key, LABEL, &card)?, SONG);
+        assert_eq!(open(&key, Data(b""), &card), Err(Refusal::WrongTag));
+        Ok(())
+    }
+}
+
+fn all() -> Result<(), Refusal> {
+    let stored = Drawer::start(42, 0).to_bytes();
+    let mut drawer = Drawer::from_bytes(&stored)?;
+    cards(&mut drawer)?;
+    others(&mut drawer)?;
+    with_a_heap(&mut drawer)
+}
+
+#[no_mangle]
+extern "C" fn main() -> i32 {
+    all().map_or_else(|refusal| refusal.number() as i32, |()| 0)
+}
