@@ -14,8 +14,8 @@ use Rattle.words.specs.Bytes.{number, bytes, over}
 use Rattle.words.proofs.Blocks.{value-halves, value-is, value-lt, loaded-all, stored-all}
 use Rattle.words.proofs.Bytes.{number-bytes}
 use Rattle.words.proofs.Over.{over-over, sets-front}
-use Rattle.answers.specs.Answers.{answered}
-use Rattle.answers.proofs.Answers.{Clear, refuse-clear}
+use Rattle.answers.specs.Answers.{answered, numberOf}
+use Rattle.answers.proofs.Answers.{Clear, refuse-clear, judged-refused, judged-clear}
 use Rattle.gift.specs.Gift.{encipher}
 use Rattle.gift.proofs.Entry.{enciphers-is}
 use Rattle.mode.specs.Hyena as mode
@@ -26,7 +26,7 @@ use Rattle.hyena_blocks.specs.declared.StateY.{StateY}
 use Rattle.hyena_blocks.specs.declared.StateX.{StateX}
 use Rattle.hyena_blocks.specs.Steps.{keyed, enciphers, heldY, heldX, readY, readX, started, tagged}
 use Rattle.hyena_blocks.proofs.Steps.{readY-held, readX-held}
-use Rattle.hyena.specs.Entry.{Inputs, refusals, outputOf, tagOf, Sealing, sealing, Opening, opening, gift}
+use Rattle.hyena.specs.Entry.{rows, Inputs, refusals, outputOf, tagOf, Sealing, sealing, Opening, opening, gift}
 
 -- ---- the steps, one after the other
 
@@ -67,6 +67,7 @@ ran way key nonce a d room e {k} {r} {s} {t} {u} {room′} lk ln ek ee es et eu 
 -- ---- the lengths that are not refused
 
 pub record Allowed (i : Inputs) (tag room : List ℕ) : Type 0 where
+  pub clear : Clear (refusals i tag room)
   pub key-16 : length (i .key) ≡ 16
   pub nonce-12 : length (i .nonce) ≡ 12
   pub ad-most : length (i .«data») ≤ 65536
@@ -77,6 +78,7 @@ pub record Allowed (i : Inputs) (tag room : List ℕ) : Type 0 where
 pub allowed : (i : Inputs) (tag room : List ℕ) → Clear (refusals i tag room) → Allowed i tag room
 allowed i tag room (key, (nonce, («data», (text, (tag′, (room′, none)))))) =
     record {
+      clear = (key, (nonce, («data», (text, (tag′, (room′, none))))));
       key-16 = eqb-true _ _ (not-false _ key);
       nonce-12 = eqb-true _ _ (not-false _ nonce);
       ad-most = ltb-false _ _ «data»;
@@ -84,6 +86,29 @@ allowed i tag room (key, (nonce, («data», (text, (tag′, (room′, none))))))
       tag-16 = eqb-true _ _ (not-false _ tag′);
       room-fits = ltb-false _ _ room′;
     }
+
+-- ---- the lengths as the code judges them: n, of what it works on, and r, the number that they call for
+
+module _ (i : Inputs) (tag room : List ℕ) {n r : ℕ} (en : n ≡ length (i .text))
+    (er : r ≡ numberOf
+    (rows (length (i .key)) (length (i .nonce)) (length (i .«data»)) n (length tag) (length room))) where
+  judged : r ≡ numberOf (refusals i tag room)
+  judged =
+      er
+      ∙ ap (λ (k : ℕ). numberOf
+      (rows (length (i .key)) (length (i .nonce)) (length (i .«data»)) k (length tag) (length room))) en
+
+  pub not-refused : r ≡ 0 → Allowed i tag room
+  not-refused e = allowed i tag room (judged-clear (refusals i tag room) judged tt e)
+
+  module _ (cipher : List ℕ → ℕ → ℕ) (refused : r ≡ 0 → ⊥) where
+    pub seal-refused : Sealing cipher r i room tag room tag
+    unfolding sealing
+    seal-refused = judged-refused (refusals i tag room) judged _ _ refused
+
+    pub open-refused : Opening cipher r i tag room room
+    unfolding opening
+    open-refused = judged-refused (refusals i tag room) judged _ _ refused
 
 -- ---- the entry points, over any cipher
 
@@ -104,37 +129,36 @@ module _ (cipher : List ℕ → ℕ → ℕ) (i : Inputs) where
   opening-by tag room c true e = refuse-clear room _ (refusals i tag room) c ∙ rw e
   opening-by tag room c false e = refuse-clear room _ (refusals i tag room) c ∙ rw e
 
-  module _ (tag₀ room : List ℕ) (c : Clear (refusals i tag₀ room)) where
+  module _ (tag₀ room : List ℕ) (l : Allowed i tag₀ room) where
     pub sealed-is : {t : Block} {room′ tag′ : List ℕ} → t ≡ halves
         (tag (cipher (i .key)) false (i .nonce) (i .«data») (i .text)) → room′ ≡ sets room 0 (outputOf cipher false i)
         → tag′ ≡ stored tag₀ 0 16 (value t) → Sealing cipher 0 i room tag₀ room′ tag′
     unfolding sealing
     sealed-is {t} et er eg =
-        let l = allowed i tag₀ room c in
         ap₂ (λ (r g : List ℕ). answered 0 (record { room = r; tag = g })) (er ∙ written false room (l .room-fits))
         (eg ∙ stored-all tag₀ (value t) (l .tag-16) ∙ ap (bytes 16) (value-is et))
-        ∙ sym (refuse-clear _ _ (refusals i tag₀ room) c)
+        ∙ sym (refuse-clear _ _ (refusals i tag₀ room) (l .clear))
 
-    module _ {t l : Block} {room₁ : List ℕ} (lo : t .lo < 2 ^ 64) (hi : t .hi < 2 ^ 64)
+    module _ {t g : Block} {room₁ : List ℕ} (lo : t .lo < 2 ^ 64) (hi : t .hi < 2 ^ 64)
         (et : t ≡ halves (tag (cipher (i .key)) true (i .nonce) (i .«data») (i .text)))
-        (er : room₁ ≡ sets room 0 (outputOf cipher true i)) (el : l ≡ halves (loaded tag₀ 0 16)) where
+        (er : room₁ ≡ sets room 0 (outputOf cipher true i)) (eg : g ≡ halves (loaded tag₀ 0 16)) where
       -- what is compared
-      compared : eqb (value l) (value t) ≡ eqb (number tag₀) (number (tagOf cipher true i))
+      compared : eqb (value g) (value t) ≡ eqb (number tag₀) (number (tagOf cipher true i))
       compared =
-          ap₂ eqb (value-is el ∙ loaded-all tag₀ (allowed i tag₀ room c .tag-16))
+          ap₂ eqb (value-is eg ∙ loaded-all tag₀ (l .tag-16))
           (sym (ap (λ (x : ℕ). number (bytes 16 x)) (sym (value-is et)) ∙ number-bytes 16 (value t) (value-lt t lo hi)))
 
       text-there : room₁ ≡ over (outputOf cipher true i) room
-      text-there = er ∙ written true room (allowed i tag₀ room c .room-fits)
+      text-there = er ∙ written true room (l .room-fits)
 
-      pub opened-is : eqb (value l) (value t) ≡ true → Opening cipher 0 i tag₀ room room₁
-      opened-is e = ap (answered 0) text-there ∙ sym (opening-by tag₀ room c true (sym compared ∙ e))
+      pub opened-is : eqb (value g) (value t) ≡ true → Opening cipher 0 i tag₀ room room₁
+      opened-is e = ap (answered 0) text-there ∙ sym (opening-by tag₀ room (l .clear) true (sym compared ∙ e))
 
-      pub wrong-is : {n : ℕ} {room′ : List ℕ} → n ≡ length (i .text) → eqb (value l) (value t) ≡ false
+      pub wrong-is : {n : ℕ} {room′ : List ℕ} → n ≡ length (i .text) → eqb (value g) (value t) ≡ false
           → room′ ≡ over (replicate n 0) room₁ → Opening cipher 7 i tag₀ room room′
       wrong-is en e ew =
           let n = length (i .text) in
           ap (answered 7) (ew ∙ ap₂ (λ (k : ℕ) (r : List ℕ). over (replicate k 0) r) en text-there
           ∙ over-over (replicate n 0) (outputOf cipher true i) room
           (length-replicate n 0 ∙ sym (length-outputs (cipher (i .key)) true (i .nonce) (i .«data») (i .text))))
-          ∙ sym (opening-by tag₀ room c false (sym compared ∙ e))
+          ∙ sym (opening-by tag₀ room (l .clear) false (sym compared ∙ e))

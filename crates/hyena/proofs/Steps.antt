@@ -2,7 +2,7 @@
 use mathlib.Core.Path.{_≡_, refl, sym, ap, ap₂, subst, _∙_}
 use mathlib.Core.Bool.{Bool, true, false, cond}
 use mathlib.Core.List.{List, [], _∷_}
-use Prim.Native.Nat.{ℕ, _+_, _-_, _*_, _^_, _≤_, _<_}
+use Prim.Native.Nat.{ℕ, _+_, _-_, _*_, _/_, _^_, _≤_, _<_}
 use native.Mathlib.Omega.{arith}
 use lib.Bits.{bitXor}
 use lib.Dec.{eqb}
@@ -100,61 +100,72 @@ behind-output : (inPlace : Bool) (text room₀ out : List ℕ) (at n : ℕ) {roo
 behind-output true text room₀ out at n e h = ap (take n) (ap (drop at) e ∙ drop-sets room₀ 0 out at (omega arith))
 behind-output false text room₀ out at n e h = refl
 
+-- a block d at the end of the output
+block-held : (E : ℕ → ℕ) (opening : Bool) (room₀ : List ℕ) (t : mode.StateX) (k at : ℕ) (d : List ℕ) {u v : StateX}
+    {room room′ : List ℕ} → length (t .out) ≡ at → Held t room₀ u room
+    → v ≡ heldX (textBlock E opening k (readX u) d) → room′ ≡ sets room at (output d (E (value (u .x))))
+    → Held (textBlock E opening k t d) room₀ v room′
+unfolding textBlock heldX
+block-held E opening room₀ t k at d {u} {v} {room} lo held ev er =
+    let o = output d (E (t .X)) in
+    let ex : value (u .x) ≡ t .X = ap (λ (a : StateX). value (a .x)) (held .0) ∙ value-halves (t .X) in
+    let em : u .mask ≡ t .Δ = ap (λ (a : StateX). a .mask) (held .0) in
+    let there : at ≡ 0 + length (t .out) = omega arith in (
+      ev ∙ rw (ex, em),
+      er ∙ ap₂ (λ (r : List ℕ) (x : ℕ). sets r at (output d (E x))) (held .1) ex
+          ∙ ap (λ (i : ℕ). sets (sets room₀ 0 (t .out)) i o) there
+          ∙ sets-append room₀ 0 (t .out) o,
+    )
+
 module _ (E : ℕ → ℕ) (opening inPlace : Bool) (text room₀ : List ℕ) (t : mode.StateX) (none : t .out ≡ []) where
-  -- so the block that is read next is the text's
-  pub still-there : (i n : ℕ) {u : StateX} {room : List ℕ} → i ≤ before (source inPlace text room₀)
-      → Held (textAt E opening (source inPlace text room₀) t i) room₀ u room
-      → part (source inPlace text room) (16 * i) n ≡ part (source inPlace text room₀) (16 * i) n
-  still-there i n h held =
-      behind-output inPlace text room₀ (textAt E opening (source inPlace text room₀) t i .out) (16 * i) n (held .1)
-      (omega (arith, length-at E opening t none (source inPlace text room₀) i h))
+  -- the text that is worked on, as it was at first
+  abbrev s : List ℕ
+  s = source inPlace text room₀
 
-module _ (E : ℕ → ℕ) (opening : Bool) (s room₀ : List ℕ) where
-  -- a block d at the end of the output
-  block-held : (t : mode.StateX) (k at : ℕ) (d : List ℕ) {u v : StateX} {room room′ : List ℕ}
-      → length (t .out) ≡ at → Held t room₀ u room
-      → v ≡ heldX (textBlock E opening k (readX u) d) → room′ ≡ sets room at (output d (E (value (u .x))))
-      → Held (textBlock E opening k t d) room₀ v room′
-  unfolding textBlock heldX
-  block-held t k at d {u} {v} {room} lo held ev er =
-      let o = output d (E (t .X)) in
-      let ex : value (u .x) ≡ t .X = ap (λ (a : StateX). value (a .x)) (held .0) ∙ value-halves (t .X) in
-      let em : u .mask ≡ t .Δ = ap (λ (a : StateX). a .mask) (held .0) in
-      let there : at ≡ 0 + length (t .out) = omega arith in (
-        ev ∙ rw (ex, em),
-        er ∙ ap₂ (λ (r : List ℕ) (x : ℕ). sets r at (output d (E x))) (held .1) ex
-            ∙ ap (λ (i : ℕ). sets (sets room₀ 0 (t .out)) i o) there
-            ∙ sets-append room₀ 0 (t .out) o,
-      )
+  -- so the block that is read next, of n bytes from at on, is the text's
+  block-next : (n k : ℕ) {i at : ℕ} {u v : StateX} {room room′ : List ℕ} → i ≤ before s → at ≡ 16 * i
+      → Held (textAt E opening s t i) room₀ u room
+      → v ≡ heldX (textBlock E opening k (readX u) (part (source inPlace text room) at n))
+      → room′ ≡ sets room at (output (part (source inPlace text room) at n) (E (value (u .x))))
+      → Held (textBlock E opening k (textAt E opening s t i) (part s at n)) room₀ v room′
+  block-next n k {i} {at} {u} {v} {room} h ea held ev er =
+      let lo : length (textAt E opening s t i .out) ≡ at = length-at E opening t none s i h ∙ sym ea in
+      let d : part (source inPlace text room) at n ≡ part s at n =
+      behind-output inPlace text room₀ (textAt E opening s t i .out) at n (held .1) (omega arith) in
+      block-held E opening room₀ (textAt E opening s t i) k at (part s at n) lo held
+      (ev ∙ ap (λ l. heldX (textBlock E opening k (readX u) l)) d)
+      (er ∙ ap (λ l. sets room at (output l (E (value (u .x))))) d)
 
-  module _ (t : mode.StateX) (none : t .out ≡ []) where
-    pub text-next : (i : ℕ) {d : List ℕ} {u v : StateX} {room room′ : List ℕ} → i < before s → d ≡ blockAt s i
-        → Held (textAt E opening s t i) room₀ u room
-        → v ≡ heldX (textBlock E opening 1 (readX u) d)
-        → room′ ≡ sets room (16 * i) (output d (E (value (u .x))))
-        → Held (textAt E opening s t (i + 1)) room₀ v room′
-    text-next i {d} {u} {v} {room} {room′} l ed held ev er =
-        subst (λ z. Held z room₀ v room′) (iterate-next (λ j w. textBlock E opening 1 w (blockAt s j)) i t refl refl)
-        (block-held (textAt E opening s t i) 1 (16 * i) (blockAt s i) (length-at E opening t none s i (omega arith))
-        held (ev ∙ ap (λ l. heldX (textBlock E opening 1 (readX u) l)) ed)
-        (er ∙ ap (λ l. sets room (16 * i) (output l (E (value (u .x))))) ed))
+  pub text-next : (i : ℕ) {u v : StateX} {room room′ : List ℕ} → i < before s
+      → Held (textAt E opening s t i) room₀ u room
+      → v ≡ heldX (textBlock E opening 1 (readX u) (part (source inPlace text room) (16 * i) 16))
+      → room′ ≡ sets room (16 * i) (output (part (source inPlace text room) (16 * i) 16) (E (value (u .x))))
+      → Held (textAt E opening s t (i + 1)) room₀ v room′
+  text-next i {u} {v} {room} {room′} l held ev er =
+      subst (λ z. Held z room₀ v room′) (iterate-next (λ j w. textBlock E opening 1 w (blockAt s j)) i t refl refl)
+      (block-next 16 1 (omega arith) refl held ev er)
 
-    pub text-end : (k : ℕ) {d : List ℕ} {u v : StateX} {room room′ : List ℕ} → (length s ≡ 0 → ⊥)
-        → d ≡ part s (16 * before s) (length s - 16 * before s)
-        → Held (textAt E opening s t (before s)) room₀ u room
-        → k ≡ cond (eqb (length s - 16 * before s) 16) 2 3
-        → v ≡ heldX (textBlock E opening k (readX u) d)
-        → room′ ≡ sets room (16 * before s) (output d (E (value (u .x))))
-        → Held (afterText E opening t s) room₀ v room′
-    text-end k {d} {u} {v} {room} {room′} some ed held ek ev er =
-        let ends : d ≡ last s = ed ∙ last-part s in
-        let el : k ≡ cond (full (last s)) 2 3 = ek ∙ ap (λ (n : ℕ). cond (eqb n 16) 2 3) (sym (last-length s)) in
-        subst (λ z. Held z room₀ v room′) (ap (λ (j : ℕ). textBlock E opening j (textAt E opening s t (before s))
-        (last s)) el ∙ sym (text-some E opening t s some))
-        (block-held (textAt E opening s t (before s)) k (16 * before s) (last s)
-        (length-at E opening t none s (before s) (omega arith)) held
-        (ev ∙ ap (λ l. heldX (textBlock E opening k (readX u) l)) ends)
-        (er ∙ ap (λ l. sets room (16 * before s) (output l (E (value (u .x))))) ends))
+  pub text-end : (len i : ℕ) {k : ℕ} {u v : StateX} {room room′ : List ℕ} → len ≡ length s → (len ≡ 0 → ⊥)
+      → i ≡ (len - 1) / 16 → Held (textAt E opening s t i) room₀ u room
+      → k ≡ cond (eqb (len - 16 * ((len - 1) / 16)) 16) 2 3
+      → v ≡ heldX (textBlock E opening k (readX u)
+      (part (source inPlace text room) (16 * ((len - 1) / 16)) (len - 16 * ((len - 1) / 16))))
+      → room′ ≡ sets room (16 * ((len - 1) / 16)) (output
+      (part (source inPlace text room) (16 * ((len - 1) / 16)) (len - 16 * ((len - 1) / 16))) (E (value (u .x))))
+      → Held (afterText E opening t s) room₀ v room′
+  text-end len i {k} {u} {v} {room} {room′} es some ei held ek ev er =
+      let n = len - 16 * ((len - 1) / 16) in
+      let en : n ≡ length s - 16 * before s = ap (λ (m : ℕ). m - 16 * ((m - 1) / 16)) es in
+      let eb : i ≡ before s = ei ∙ ap (λ (m : ℕ). (m - 1) / 16) es in
+      let el : k ≡ cond (full (last s)) 2 3 =
+      ek ∙ ap (λ (m : ℕ). cond (eqb m 16) 2 3) (en ∙ sym (last-length s)) in
+      let ed : part s (16 * ((len - 1) / 16)) n ≡ last s =
+      ap (λ (m : ℕ). part s (16 * ((m - 1) / 16)) (m - 16 * ((m - 1) / 16))) es ∙ last-part s in
+      let by : ℕ → ℕ → List ℕ → mode.StateX = λ j k d. textBlock E opening k (textAt E opening s t j) d in
+      subst (λ z. Held z room₀ v room′)
+      (ap (λ (j : ℕ). by j k (part s (16 * ((len - 1) / 16)) n)) eb ∙ ap₂ (by (before s)) el ed
+      ∙ sym (text-some E opening t s (λ z. some (es ∙ z))))
+      (block-next n k (omega (arith, eb)) (ap (λ (j : ℕ). 16 * j) (sym ei)) held ev er)
 
 module _ (E : ℕ → ℕ) (opening : Bool) (t : StateX) (s room : List ℕ) (h : t .x .lo < 2 ^ 64) where
   pub text-start : Held (textAt E opening s (readX t) 0) room t room

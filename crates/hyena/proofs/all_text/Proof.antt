@@ -11,7 +11,7 @@ use Rattle.words.specs.Block.{value, part}
 use Rattle.mode.specs.Hyena.{before, output, textAt}
 use Rattle.hyena_blocks.specs.Steps.{enciphers, readX}
 use Rattle.hyena.specs.Source.{source}
-use Rattle.hyena.proofs.Steps.{Held, source-length, still-there, text-start, text-next, text-end, text-empty}
+use Rattle.hyena.proofs.Steps.{Held, source-length, text-start, text-next, text-end, text-empty}
 use borrow.Author.Needs.{needs}
 use Rattle.hyena.proofs.all_text.Statement.{statement}
 use Rattle.hyena.proofs.all_text.Tie as tie
@@ -81,10 +81,8 @@ loop-again c =
     let t : l .loop .i < before S = omega (arith, w .source-len .ensures) in (
       omega arith,
       search needs,
-      text-next (enciphers (a .e)) (a .opening) S (now (a .room)) (readX (a .t)) refl (l .loop .i) t
-          (still-there (enciphers (a .e)) (a .opening) (a .in-place) (now (a .text)) (now (a .room)) (readX (a .t)) refl
-          (l .loop .i) 16 (omega arith) (l .loop .inv .2))
-          (l .loop .inv .2) (p .text-part .ensures .0) (p .text-part .ensures .1),
+      text-next (enciphers (a .e)) (a .opening) (a .in-place) (now (a .text)) (now (a .room)) (readX (a .t)) refl
+          (l .loop .i) t (l .loop .inv .2) (p .text-part .ensures .0) (p .text-part .ensures .1),
     )
 
 mul-last : tie.Need-mul-last Inv-loop μ-loop
@@ -122,26 +120,9 @@ returns-2 c =
     let l = f .before .before in
     let w = l .before .before in
     let a = w .before .before .before .before .args in
-    let S = source (a .in-place) (now (a .text)) (now (a .room)) in
-    let e : l .loop .i ≡ before S = omega (arith, w .source-len .ensures) in
-    let h : Held (textAt (enciphers (a .e)) (a .opening) S (readX (a .t)) (before S)) (now (a .room)) (l .loop .s)
-    (l .loop .room) =
-    subst (λ i. Held (textAt (enciphers (a .e)) (a .opening) S (readX (a .t)) i) (now (a .room)) (l .loop .s)
-    (l .loop .room)) e (l .loop .inv .2) in
-    -- the length as the code has it
-    let el = w .source-len .ensures in
-    let last : ℕ → List ℕ =
-    λ n. part (source (a .in-place) (now (a .text)) (l .loop .room)) (16 * ((n - 1) / 16)) (n - 16 * ((n - 1) / 16)) in
-    text-end (enciphers (a .e)) (a .opening) S (now (a .room)) (readX (a .t)) refl _
-    (λ z. l .before .if1 .left (el ∙ z))
-    (ap last el
-    ∙ still-there (enciphers (a .e)) (a .opening) (a .in-place) (now (a .text)) (now (a .room)) (readX (a .t)) refl
-    (before S) (length S - 16 * before S) (omega arith) h)
-    h (f .if-full .ensures ∙ ap (λ (n : ℕ). cond (eqb (n - 16 * ((n - 1) / 16)) 16) 2 3) el)
-    (p .text-part2 .ensures .0)
-    (p .text-part2 .ensures .1
-    ∙ ap (λ (n : ℕ). sets (l .loop .room) (16 * ((n - 1) / 16)) (output (last (w .source-len .result))
-    (enciphers (a .e) (value (l .loop .s .x))))) el)
+    text-end (enciphers (a .e)) (a .opening) (a .in-place) (now (a .text)) (now (a .room)) (readX (a .t)) refl
+    (w .source-len .result) (l .loop .i) (w .source-len .ensures) (l .before .if1 .left) (omega arith) (l .loop .inv .2)
+    (f .if-full .ensures) (p .text-part2 .ensures .0) (p .text-part2 .ensures .1)
 
 pub all-text-spec : {M : Type 1} → statement M
 all-text-spec =

@@ -1,14 +1,10 @@
-use mathlib.Core.Path.{_≡_, sym, ap, _∙_}
-use mathlib.Core.List.{List}
-use Prim.Native.Nat.{ℕ, _^_, _<_}
+use mathlib.Core.Path.{sym, _∙_}
+use Prim.Native.Nat.{_^_, _<_}
 use native.Mathlib.Omega.{arith}
-use lib.ListN.{length}
 use denote.Ref.{now}
-use Rattle.answers.specs.Answers.{Row, numberOf}
-use Rattle.answers.proofs.Answers.{Clear, judged-refused, judged-clear}
-use Rattle.hyena.specs.Entry.{rows, Inputs, inputs, refusals, opening, gift}
+use Rattle.hyena.specs.Entry.{Inputs, inputs, gift}
 use Rattle.hyena.specs.Source.{source}
-use Rattle.hyena.proofs.Entry.{Allowed, allowed, opened-is, wrong-is}
+use Rattle.hyena.proofs.Entry.{Allowed, not-refused, open-refused, opened-is, wrong-is}
 use borrow.Author.Needs.{needs}
 use Rattle.hyena.proofs.opened.Statement.{statement}
 use Rattle.hyena.proofs.opened.Tie as tie
@@ -28,34 +24,25 @@ given c = let a = c .before .before .before .before .before .before .before .bef
     inputs (now (a .key)) (now (a .nonce)) (now (a .«data»))
     (source (a .in-place) (now (a .ciphertext)) (now (a .room)))
 
-abbrev judged-by : tie.After-refusal → List Row
-judged-by c = let a = c .before .before .before .before .before .before .before .before .before .args in
-    refusals (given c) (now (a .tag)) (now (a .room))
-
-judged : (c : tie.After-refusal) → c .refusal .result ≡ numberOf (judged-by c)
-judged c =
-    let a = c .before .before .before .before .before .before .before .before .before .args in
-    c .refusal .ensures
-    ∙ ap (λ (n : ℕ). numberOf (rows (length (now (a .key))) (length (now (a .nonce))) (length (now (a .«data»))) n
-    (length (now (a .tag))) (length (now (a .room))))) (c .before .source-len .ensures)
-
 returns : tie.Need-returns
-unfolding opening
-returns c = judged-refused (judged-by (c .before)) (judged (c .before)) _ _ (c .if1 .taken)
+returns c =
+    let r = c .before in
+    let a = r .before .before .before .before .before .before .before .before .before .args in
+    open-refused (given r) (now (a .tag)) (now (a .room)) (r .before .source-len .ensures) (r .refusal .ensures) gift
+    (c .if1 .taken)
 
 -- no length is refused
-clear : (c : tie.Else1) → Clear (judged-by (c .before))
-clear c = judged-clear (judged-by (c .before)) (judged (c .before)) tt (c .if1 .left)
-
 lengths : (c : tie.Else1) → let a = c .before .before .before .before .before .before .before .before .before .before
     .args in
     Allowed (given (c .before)) (now (a .tag)) (now (a .room))
 lengths c =
-    let a = c .before .before .before .before .before .before .before .before .before .before .args in
-    allowed (given (c .before)) (now (a .tag)) (now (a .room)) (clear c)
+    let r = c .before in
+    let a = r .before .before .before .before .before .before .before .before .before .args in
+    not-refused (given r) (now (a .tag)) (now (a .room)) (r .before .source-len .ensures) (r .refusal .ensures)
+    (c .if1 .left)
 
 run-requires : tie.Need-run-requires
-run-requires c κs = (lengths (c .before) .key-16, lengths (c .before) .nonce-12)
+run-requires c κs = let l = lengths (c .before) in (l .key-16, l .nonce-12)
 
 -- the recomputed tag is a block
 small : (n : tie.After-run) → (n .run .result .lo < 2 ^ 64) × (n .run .result .hi < 2 ^ 64)
@@ -75,7 +62,7 @@ returns-2 c =
     let s = c .before in
     let n = s .before .before .before .before in
     let b = n .before .before in
-    opened-is gift (given (b .before)) _ _ (clear b) (small n .0) (small n .1) (n .run .ensures .0) (n .run .ensures .1)
+    opened-is gift (given (b .before)) _ _ (lengths b) (small n .0) (small n .1) (n .run .ensures .0) (n .run .ensures .1)
     (s .before .load .ensures) (sym (s .equal .ensures) ∙ c .if2 .taken)
 
 wipe-requires : tie.Need-wipe-requires
@@ -98,7 +85,7 @@ returns-3 c =
     let s = w .before .before .before in
     let n = s .before .before .before .before in
     let b = n .before .before in
-    wrong-is gift (given (b .before)) _ _ (clear b) (small n .0) (small n .1) (n .run .ensures .0) (n .run .ensures .1)
+    wrong-is gift (given (b .before)) _ _ (lengths b) (small n .0) (small n .1) (n .run .ensures .0) (n .run .ensures .1)
     (s .before .load .ensures) (b .before .before .source-len .ensures)
     (sym (s .equal .ensures) ∙ w .before .before .if2 .left) (w .wipe .ensures)
 

@@ -1,13 +1,7 @@
-use mathlib.Core.Path.{_≡_, ap, _∙_}
-use mathlib.Core.List.{List}
-use Prim.Native.Nat.{ℕ}
-use lib.ListN.{length}
 use denote.Ref.{now}
-use Rattle.answers.specs.Answers.{Row, numberOf}
-use Rattle.answers.proofs.Answers.{Clear, judged-refused, judged-clear}
-use Rattle.hyena.specs.Entry.{rows, Inputs, inputs, refusals, sealing, gift}
+use Rattle.hyena.specs.Entry.{Inputs, inputs, gift}
 use Rattle.hyena.specs.Source.{source}
-use Rattle.hyena.proofs.Entry.{Allowed, allowed, sealed-is}
+use Rattle.hyena.proofs.Entry.{Allowed, not-refused, seal-refused, sealed-is}
 use borrow.Author.Needs.{needs}
 use Rattle.hyena.proofs.sealed.Statement.{statement}
 use Rattle.hyena.proofs.sealed.Tie as tie
@@ -24,36 +18,28 @@ same-length c = search needs
 -- what was handed over
 abbrev given : tie.After-refusal → Inputs
 given c = let a = c .before .before .before .before .before .before .before .before .before .args in
-    inputs (now (a .key)) (now (a .nonce)) (now (a .«data»)) (source (a .in-place) (now (a .text)) (now (a .room)))
-
-abbrev judged-by : tie.After-refusal → List Row
-judged-by c = let a = c .before .before .before .before .before .before .before .before .before .args in
-    refusals (given c) (now (a .tag)) (now (a .room))
-
-judged : (c : tie.After-refusal) → c .refusal .result ≡ numberOf (judged-by c)
-judged c =
-    let a = c .before .before .before .before .before .before .before .before .before .args in
-    c .refusal .ensures
-    ∙ ap (λ (n : ℕ). numberOf (rows (length (now (a .key))) (length (now (a .nonce))) (length (now (a .«data»))) n
-    (length (now (a .tag))) (length (now (a .room))))) (c .before .source-len .ensures)
+    inputs (now (a .key)) (now (a .nonce)) (now (a .«data»))
+    (source (a .in-place) (now (a .text)) (now (a .room)))
 
 returns : tie.Need-returns
-unfolding sealing
-returns c = judged-refused (judged-by (c .before)) (judged (c .before)) _ _ (c .if1 .taken)
+returns c =
+    let r = c .before in
+    let a = r .before .before .before .before .before .before .before .before .before .args in
+    seal-refused (given r) (now (a .tag)) (now (a .room)) (r .before .source-len .ensures) (r .refusal .ensures) gift
+    (c .if1 .taken)
 
 -- no length is refused
-clear : (c : tie.Else1) → Clear (judged-by (c .before))
-clear c = judged-clear (judged-by (c .before)) (judged (c .before)) tt (c .if1 .left)
-
 lengths : (c : tie.Else1) → let a = c .before .before .before .before .before .before .before .before .before .before
     .args in
     Allowed (given (c .before)) (now (a .tag)) (now (a .room))
 lengths c =
-    let a = c .before .before .before .before .before .before .before .before .before .before .args in
-    allowed (given (c .before)) (now (a .tag)) (now (a .room)) (clear c)
+    let r = c .before in
+    let a = r .before .before .before .before .before .before .before .before .before .args in
+    not-refused (given r) (now (a .tag)) (now (a .room)) (r .before .source-len .ensures) (r .refusal .ensures)
+    (c .if1 .left)
 
 run-requires : tie.Need-run-requires
-run-requires c κs = (lengths (c .before) .key-16, lengths (c .before) .nonce-12)
+run-requires c κs = let l = lengths (c .before) in (l .key-16, l .nonce-12)
 
 store-requires : tie.Need-store-requires
 store-requires c κs = search needs
@@ -69,7 +55,7 @@ returns-2 c =
     let s = c .before .before in
     let n = s .before .before .before .before in
     let b = n .before .before in
-    sealed-is gift (given (b .before)) _ _ (clear b) (n .run .ensures .0) (n .run .ensures .1) (s .store .ensures)
+    sealed-is gift (given (b .before)) _ _ (lengths b) (n .run .ensures .0) (n .run .ensures .1) (s .store .ensures)
 
 pub sealed-spec : {M : Type 1} → statement M
 sealed-spec =
