@@ -1,5 +1,5 @@
-/* Seals and opens a text in the one buffer that holds it, as a reader with
-   little memory does. */
+/* Makes a card in the one buffer that holds its text, and opens it there, as a
+   reader with little memory does. */
 
 #include <stdio.h>
 #include <string.h>
@@ -7,34 +7,72 @@
 
 /* A real key comes from a key book, a real drawer from where it is stored. */
 static const uint8_t key[] = {3, 1, 4, 1, 5, 9, 2, 6, 5, 3, 5, 8, 9, 7, 9, 3};
+static const char song[] = "Three ducks went out one day";
 
-static uint32_t open_it(const vespruldo_drawn *nonce, const uint8_t *tag,
-                        uint8_t *buffer, size_t len)
+/* Where the parts of a card begin; its tag comes behind the text. */
+enum { LENGTH_AT = VESPRULDO_NONCE_BYTES, TEXT_AT = LENGTH_AT + 2 };
+
+/* Makes a card of the text that lies in it. */
+static uint32_t seal_card(uint8_t *card, size_t text_len, const uint8_t *nonce)
 {
-    return vespruldo_open_in_place(key, sizeof key, nonce->bytes,
-                                   sizeof nonce->bytes, NULL, 0, buffer, len,
-                                   tag, VESPRULDO_TAG_BYTES);
+    if (text_len > VESPRULDO_CARD_TEXT_MAX)
+        return VESPRULDO_TEXT_LENGTH;
+    memcpy(card, nonce, VESPRULDO_NONCE_BYTES);
+    card[LENGTH_AT] = (uint8_t)(text_len % 256);
+    card[LENGTH_AT + 1] = (uint8_t)(text_len / 256);
+    return vespruldo_seal_in_place(key, sizeof key, card, VESPRULDO_NONCE_BYTES,
+                                   NULL, 0, card + TEXT_AT, text_len,
+                                   card + TEXT_AT + text_len,
+                                   VESPRULDO_TAG_BYTES);
+}
+
+/* Opens a card, so that its text lies in it again. Whoever wrote the card may
+   have lied about its length, so that is compared before anything is read by
+   it. */
+static uint32_t open_card(uint8_t *card, size_t card_len)
+{
+    if (card_len < VESPRULDO_CARD_EXTRA)
+        return VESPRULDO_CUT_SHORT;
+    size_t text_len = card[LENGTH_AT] + 256u * card[LENGTH_AT + 1];
+    if (card_len - VESPRULDO_CARD_EXTRA != text_len)
+        return card_len - VESPRULDO_CARD_EXTRA < text_len ? VESPRULDO_CUT_SHORT
+                                                          : VESPRULDO_LEFT_OVER;
+    return vespruldo_open_in_place(key, sizeof key, card, VESPRULDO_NONCE_BYTES,
+                                   NULL, 0, card + TEXT_AT, text_len,
+                                   card + TEXT_AT + text_len,
+                                   VESPRULDO_TAG_BYTES);
+}
+
+static void tell(const char *what, uint32_t number, const uint8_t *text)
+{
+    printf("%s: %s, \"%s\"\n", what, vespruldo_words(number),
+           (const char *)text);
 }
 
 int main(void)
 {
-    uint8_t buffer[] = "Three ducks went out one day";
-    uint8_t copy[sizeof buffer], tag[VESPRULDO_TAG_BYTES];
-    vespruldo_drawer drawer = vespruldo_drawer_start(42, 0);
-    vespruldo_drawn nonce = vespruldo_drawer_draw(drawer);
-    uint32_t number = nonce.number;
-    if (number == VESPRULDO_DONE)
-        number = vespruldo_seal_in_place(key, sizeof key, nonce.bytes,
-                                         sizeof nonce.bytes, NULL, 0, buffer,
-                                         sizeof buffer, tag, sizeof tag);
-    printf("sealing: %s\n", vespruldo_words(number));
+    uint8_t card[sizeof song + VESPRULDO_CARD_EXTRA], chewed[sizeof card];
+    uint8_t text[sizeof song];
+    vespruldo_drawn nonce = vespruldo_drawer_draw(vespruldo_drawer_start(42, 0));
+    if (nonce.number != VESPRULDO_DONE)
+        return (int)nonce.number;
 
-    memcpy(copy, buffer, sizeof buffer); /* what is opened in vain is gone */
-    tag[0] ^= 1;
-    number = open_it(&nonce, tag, buffer, sizeof buffer);
-    printf("%s, \"%s\"\n", vespruldo_words(number), (const char *)buffer);
-    tag[0] ^= 1;
-    number = open_it(&nonce, tag, copy, sizeof copy);
-    printf("then: %s, \"%s\"\n", vespruldo_words(number), (const char *)copy);
-    return (int)number;
+    memcpy(card + TEXT_AT, song, sizeof song);
+    uint32_t number = seal_card(card, sizeof song, nonce.bytes);
+    if (number != VESPRULDO_DONE)
+        return (int)number;
+    memcpy(chewed, card, sizeof card);
+    chewed[TEXT_AT] ^= 1;
+
+    /* It is a card like any other. */
+    number = vespruldo_card_open(key, sizeof key, NULL, 0, card, sizeof card,
+                                 text, sizeof text);
+    tell("opened elsewhere", number, text);
+    number = open_card(card, sizeof card);
+    tell("opened in place", number, card + TEXT_AT);
+
+    /* What is opened in vain is gone: keep a copy of what may be tried again. */
+    number = open_card(chewed, sizeof chewed);
+    tell("one bit flipped", number, chewed + TEXT_AT);
+    return open_card(chewed, sizeof chewed - 1) == VESPRULDO_CUT_SHORT ? 0 : 1;
 }

@@ -5,7 +5,8 @@
 
    TEXT is sealed without associated data; CARD must not be there yet. What is
    opened goes to standard output. The exit status is the number of the refusal,
-   or 255 where a file could not be read or written.
+   or 255 for all else: a command line that is not understood, a drawer that
+   somebody is drawing from, a file that could not be read or written.
 
    These are the files of the office's tool `cards`, and so is the lock: while a
    number is drawn, there is a folder DRAWER.next, which only one can make. If a
@@ -88,14 +89,17 @@ static int sync_folder(const char *name)
     return result;
 }
 
-/* Has the drawer's next state in the file's place: whatever happens, there is
-   either the old one or the new one, whole. */
+/* Has the drawer's next state in the file's place, with its group and rights:
+   whatever happens, there is either the old one or the new one, whole. */
 static uint32_t replace_drawer(const char *drawer, const char *next,
+                               const struct stat *status,
                                vespruldo_drawer state)
 {
     vespruldo_stored stored = vespruldo_drawer_store(state);
     uint32_t number = write_new(next, 0600, stored.bytes, sizeof stored.bytes);
-    if (number == VESPRULDO_DONE && rename(next, drawer) < 0) {
+    if (number == VESPRULDO_DONE &&
+        (chown(next, (uid_t)-1, status->st_gid) < 0 ||
+         chmod(next, status->st_mode & 0777) < 0 || rename(next, drawer) < 0)) {
         number = failed(drawer);
         unlink(next);
     }
@@ -126,7 +130,7 @@ static uint32_t draw(const char *drawer, const char *next, uint8_t *nonce)
     if (drawn.number != VESPRULDO_DONE)
         return told(drawn.number, drawer);
     memcpy(nonce, drawn.bytes, sizeof drawn.bytes);
-    return replace_drawer(drawer, next, drawn.next);
+    return replace_drawer(drawer, next, &status, drawn.next);
 }
 
 /* Draws while nobody else does. */

@@ -1,9 +1,9 @@
 /* Vespruldo: sealing for talking card readers.
 
-   Link with libvespruldo.a. It is x86-64 code with System V calls, for Linux
-   and the like, not for Windows or x32; any x86-64 processor will do. It is
-   position-independent and takes nothing but memcpy and memset, from any C
-   library (tried with glibc).
+   Link with libvespruldo.a. It is x86-64 code with System V calls, in ELF, for
+   Linux and the like, not for Windows, macOS or x32; any x86-64 processor will
+   do. It is position-independent and takes nothing but memcpy and memset, from
+   any C library (tried with glibc).
 
    Buffers. A buffer is a pointer and a length: how many bytes there are at that
    place. A length that a function does not allow is refused, whatever it is. If
@@ -21,10 +21,10 @@
    no buffer, with one exception: WRONG_TAG (see the functions that open).
    Comments leave out the prefix VESPRULDO_.
 
-   What each function answers and what its buffers then hold is proved for all
-   inputs. docs/READING.md says what is believed and what is only tested,
+   What each function of the archive answers and what its buffers then hold is
+   proved for all inputs. docs/READING.md says what is believed and what is only tested,
    docs/SECURITY.md what is known about timing and about secrets left behind.
-   Installed, these pages are in share/doc/vespruldo. */
+   Installed, these pages and the examples are in share/doc/vespruldo. */
 
 #ifndef VESPRULDO_H
 #define VESPRULDO_H
@@ -34,6 +34,9 @@
 #endif
 #if defined(_WIN32) || defined(__CYGWIN__)
 #error "libvespruldo.a has System V calls, and Windows has others"
+#endif
+#if defined(__APPLE__)
+#error "libvespruldo.a is in ELF, which macOS does not link"
 #endif
 
 #include <stdbool.h>
@@ -122,7 +125,7 @@ static inline const char *vespruldo_words(uint32_t number)
     case VESPRULDO_DRAWER_DAMAGED:
         return "drawer file damaged";
     default:
-        return "not the number of a refusal";
+        return "not an answer of this version";
     }
 }
 
@@ -170,9 +173,13 @@ static inline const char *vespruldo_words(uint32_t number)
 /* The archive's version, as VESPRULDO_VERSION is this header's. */
 uint32_t vespruldo_version(void);
 
-/* Whatever includes this header asks for this function (with GCC and Clang). In
-   an archive with other calls or structs its name has another number, so that
-   the two do not link; otherwise they would, and would fail when run. */
+/* Whatever includes this header refers to this function (with GCC and Clang),
+   and so links the archive even if it calls nothing. In an archive with other
+   calls or structs the name has another number: if a linker says that it is
+   undefined, the archive is missing or not of this header's interface, and both
+   must be taken from one version. Without this the two would link, and fail
+   when run. A compiler that knows no attribute `retain` (GCC before 11) loses
+   it under --gc-sections. */
 #define VESPRULDO_INTERFACE 1
 uint32_t vespruldo_interface_1(void);
 
@@ -207,7 +214,8 @@ uint32_t vespruldo_card_seal(const uint8_t *key, size_t key_len,
                              uint8_t *VESPRULDO_RESTRICT room, size_t room_len);
 
 /* Opens a card: writes the text to `room`. It has `card_len` - 30 bytes, and
-   room for so many is always enough. The rest of longer room keeps its bytes.
+   room for so many is always enough; if `card_len` is less than 30, which is no
+   card, no room is needed. The rest of longer room keeps its bytes.
 
    Refusals: KEY_LENGTH (key not 16 bytes), DATA_LENGTH (over 65,536), CUT_SHORT
    (the card has fewer bytes than the length in it and 30), LEFT_OVER (it has
@@ -285,7 +293,7 @@ uint32_t vespruldo_open_short(const uint8_t *key, size_t key_len,
                               size_t room_len);
 
 /* Seals in place: vespruldo_seal where text and room are one buffer, which then
-   holds the ciphertext.
+   holds the ciphertext. examples/in_place.c makes a card so.
 
    Refusals: as for vespruldo_seal, but never ROOM_LENGTH. */
 VESPRULDO_LOOK_AT_ANSWER
@@ -318,10 +326,10 @@ uint32_t vespruldo_open_in_place(const uint8_t *key, size_t key_len,
 
 /* A drawer: a reader number and a count. Its draws never repeat as long as each
    is taken from the drawer that the last one handed back. So keep the drawer
-   where a restart finds it: after each draw store `next`, and do not use what
-   was drawn before that is done. A drawer started again from an older count
-   hands out the same numbers again. Two readers that share a key need different
-   reader numbers.
+   where a restart finds it: after each draw store `next`, and use what was drawn
+   only when that is done. A drawer started again from an older count hands out
+   the same numbers again. Two readers that share a key need different reader
+   numbers.
 
    What is stored is what vespruldo_drawer_store answers, never the bytes of
    this struct: it has padding, which holds whatever was in memory. */
@@ -373,15 +381,21 @@ VESPRULDO_LOOK_AT_ANSWER
 vespruldo_drawn_iv vespruldo_drawer_iv(vespruldo_drawer drawer);
 
 /* The bytes to store a drawer by: the reader number in 4, the count in 8, both
-   little-endian, and the BLAKE2b digest of these 12 in 32, without a key. They
-   are the drawer file of the office's tool `cards`. */
+   little-endian, and the BLAKE2b digest of these 12 in 32, without a key. Where
+   writing can be cut off, write to two places in turn, and after a restart go on
+   from the one that can be loaded and has the greater count.
+
+   They are the drawer file of the office's tool `cards`. Programs that draw from
+   one file must take turns, or both draw the same number: while it draws, each
+   keeps a folder FILE.next, as examples/reader.c does. */
 vespruldo_stored vespruldo_drawer_store(vespruldo_drawer drawer);
 
 /* The drawer that was stored in these bytes.
 
    Refusal: DRAWER_DAMAGED (not, to the last byte, what vespruldo_drawer_store
    answers for a drawer). The drawer is then reader 0 with the count 2^64 - 1,
-   which is spent. */
+   which is spent. The count that it had is lost: start another drawer, with a
+   reader number that was never used under the key. */
 VESPRULDO_LOOK_AT_ANSWER
 VESPRULDO_READS(1, 2)
 vespruldo_loaded vespruldo_drawer_load(const uint8_t *bytes, size_t bytes_len);
@@ -502,9 +516,9 @@ uint32_t vespruldo_blake2b(const uint8_t *key, size_t key_len,
                            size_t digest_len);
 
 /* Whether both buffers have the same length and the same bytes: true is the
-   same, unlike memcmp's 0. The time depends on the lengths alone: digests under
-   a key are compared by this, never by memcmp. The buffers are only read, and
-   may overlap. */
+   same, unlike memcmp's 0. The time tells the lengths and at most the answer,
+   never where the buffers differ: digests under a key are compared by this, not
+   by memcmp. The buffers are only read, and may overlap. */
 VESPRULDO_LOOK_AT_ANSWER
 VESPRULDO_READS(1, 2) VESPRULDO_READS(3, 4)
 bool vespruldo_same(const uint8_t *a, size_t a_len,

@@ -8,7 +8,7 @@ pub record Row : Type 0 where
   pub applies : Bool
   pub number : ℕ
 
--- of rows, which stand in the order of their numbers, that of the first that applies; 0 where none does
+-- of rows, as they stand, that of the first that applies; 0 where none does
 abbrev pub numberOf : List Row → ℕ
 numberOf [] = 0
 numberOf (r ∷ rs) = cond (r .applies) (r .number) (numberOf rs)

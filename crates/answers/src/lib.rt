@@ -1,4 +1,4 @@
-// The refusals of an entry point: a row for each line of document 01's table, in the order of their numbers.
+// The refusals of an entry point: a row for each line of document 01's table, or of its own, as they stand there.
 ghost use mathlib.Core.Bool.{cond};
 ghost use mathlib.Core.Path.{_≡_};
 

@@ -1,5 +1,5 @@
-// What C and Rust link. Each function is a thin call with the whole promise of what it calls, by its name; a slice
-// crosses as a pointer and a length, a struct by value.
+// What C and Rust link. Each function but the last two is a thin call with the whole promise of what it calls, by its
+// name; a slice crosses as a pointer and a length, a struct by value.
 use books::Found;
 use drawer::Drawer;
 use drawer::Drawn;

@@ -102,7 +102,7 @@ fn byte(s: &[u8], at: usize) -> u16
 }
 
 // Whether two slices have the same bytes. What differs is gathered and looked at once, at the end: time tells the
-// lengths alone.
+// lengths, and at most the answer.
 pub fn same(s: &[u8], t: &[u8]) -> bool
     ensures { λ r. ⌜ r ≡ Search·same (now (s .entry)) (now (t .entry)) ⌝ }
 {

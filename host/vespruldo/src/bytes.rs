@@ -238,7 +238,7 @@ used_once! {
     Nonce;
     /// The nonce that something was sealed with: 12 bytes, for opening only, and
     /// for [`chacha20_again`](crate::chacha20_again). It is public, and may be
-    /// copied, compared and stored.
+    /// cloned, compared and stored.
     ///
     /// ```
     /// use vespruldo::{Refusal, UsedNonce};
@@ -273,7 +273,7 @@ used_once! {
     /// This stops a slip, not intent: `Iv::from` takes any bytes for fresh ones.
     Iv;
     /// The iv that a block was enciphered with: 48 bytes, for deciphering only. It
-    /// is public, and may be copied, compared and stored.
+    /// is public, and may be cloned, compared and stored.
     UsedIv;
     LIONESS_IV_BYTES
 }

@@ -169,8 +169,8 @@ pub fn seal(key: &Key, nonce: Nonce, data: Data, text: &[u8]) -> Result<Sealed, 
 }
 
 /// Opens what [`seal`] sealed and answers the text, if key, associated data and
-/// all that is in `sealed` are what they were at sealing. Otherwise no text is
-/// left anywhere: the archive has overwritten with zeros what it had deciphered.
+/// all that is in `sealed` are what they were at sealing. Otherwise there is no
+/// text: the archive has overwritten with zeros what it had written of it.
 ///
 /// ```
 /// use vespruldo::{open, seal, Data, Drawer, Key, Refusal};

@@ -139,7 +139,13 @@ impl Drawer {
     ///
     /// Store these after each draw, before the number drawn is used: a restart
     /// that goes on from them never draws that number again. Never go on from
-    /// older ones, as those of a backup are.
+    /// older ones, as those of a backup are. Where writing can be cut off, write
+    /// to two places in turn, and after a restart go on from the one that can be
+    /// loaded and has the greater count.
+    ///
+    /// Programs that draw from one file must take turns, or both draw the same
+    /// number: while it draws, the tool keeps a folder `FILE.next`, and so must
+    /// whoever shares its file.
     #[must_use]
     pub fn to_bytes(&self) -> [u8; DRAWER_BYTES] {
         // SAFETY: see the crate's root.
@@ -166,7 +172,9 @@ impl Drawer {
     /// # Errors
     ///
     /// [`Refusal::DrawerDamaged`] if the bytes are not exactly what
-    /// [`to_bytes`](Drawer::to_bytes) answers for some drawer.
+    /// [`to_bytes`](Drawer::to_bytes) answers for some drawer. The count is then
+    /// lost: start another drawer, with a reader number that was never used under
+    /// the key.
     pub fn from_bytes(bytes: &[u8]) -> Result<Drawer, Refusal> {
         // SAFETY: see the crate's root.
         let loaded = unsafe { vespruldo_drawer_load(bytes.as_ptr(), bytes.len()) };

@@ -77,7 +77,7 @@ impl Error for Refusal {}
 /// assert_eq!(Refusal::try_from(status), Ok(Refusal::WrongTag));
 ///
 /// let why = Refusal::try_from(13).unwrap_err();
-/// assert_eq!(why.to_string(), "13 is not the number of a refusal");
+/// assert_eq!(why.to_string(), "13 is not a refusal of this crate");
 /// let why = Refusal::try_from(0).unwrap_err();
 /// assert_eq!(why.to_string(), "0 is no refusal: it says that all was done");
 /// ```
@@ -92,8 +92,9 @@ impl TryFrom<u32> for Refusal {
     }
 }
 
-/// A number that is none of a [`Refusal`]. One that is unknown here may come from
-/// a later version; 0 is what is answered when all was done.
+/// A number that is no [`Refusal`]: 0, which says that all was done; one of the
+/// tool `cards`' own, 101 to 108, of which 106 alone is one here; or one of a
+/// later version.
 #[derive(Clone, Copy, Debug, PartialEq, Eq, Hash)]
 pub struct NotARefusal(u32);
 
@@ -109,7 +110,7 @@ impl fmt::Display for NotARefusal {
     fn fmt(&self, f: &mut fmt::Formatter<'_>) -> fmt::Result {
         match self.0 {
             0 => f.write_str("0 is no refusal: it says that all was done"),
-            number => write!(f, "{number} is not the number of a refusal"),
+            number => write!(f, "{number} is not a refusal of this crate"),
         }
     }
 }

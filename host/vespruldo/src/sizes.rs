@@ -1,6 +1,6 @@
-//! The lengths in bytes that document 01 allows, by the names of the C header
-//! without its prefix: `_BYTES` is the only one, `_MIN` and `_MAX` are the least
-//! and the greatest, `_EXTRA` is what a card has besides its ciphertext.
+//! The lengths in bytes that are allowed, by the names of the C header without
+//! its prefix: `_BYTES` is the only one, `_MIN` and `_MAX` are the least and the
+//! greatest, `_EXTRA` is what a card has besides its ciphertext.
 
 /// Key for sealing, opening and GIFT-128.
 pub const KEY_BYTES: usize = 16;

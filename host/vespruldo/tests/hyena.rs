@@ -4,6 +4,7 @@ mod common;
 
 use std::collections::BTreeSet;
 
+use common::cards::{Card, Parts};
 use common::pairs::{judged, open, open_short, seal, seal_short};
 use common::{emulated, number, times, up_to, with_flip, LONGEST_DATA, LONGEST_TEXT};
 use second::random::Random;
@@ -23,19 +24,6 @@ fn compare(random: &mut Random, [key, nonce, data, text, tag, room]: [usize; 6])
 fn room_for(random: &mut Random, len: usize) -> Vec<u8> {
     let more = up_to(random, 20);
     random.bytes(len + more)
-}
-
-/// What is opened: key, nonce, associated data, ciphertext and tag.
-type Parts<'a> = [&'a [u8]; 5];
-
-/// A sealed text.
-struct Card {
-    key: Vec<u8>,
-    nonce: Vec<u8>,
-    data: Vec<u8>,
-    text: Vec<u8>,
-    ciphertext: Vec<u8>,
-    tag: Vec<u8>,
 }
 
 impl Card {
@@ -71,16 +59,6 @@ impl Card {
         }
     }
 
-    fn parts(&self) -> Parts<'_> {
-        [
-            &self.key,
-            &self.nonce,
-            &self.data,
-            &self.ciphertext,
-            &self.tag,
-        ]
-    }
-
     /// Both open it to its text, and the rest of longer room keeps its bytes.
     fn opens(&self, random: &mut Random) {
         let before = room_for(random, self.text.len());
@@ -93,13 +71,6 @@ impl Card {
         let (text, rest) = room.split_at(self.text.len());
         assert!(text == self.text, "text {}", self.text.len());
         assert_eq!(rest, &before[self.text.len()..]);
-    }
-
-    /// The parts with these bytes in place of part `n`.
-    fn with<'a>(&'a self, n: usize, bytes: &'a [u8]) -> Parts<'a> {
-        let mut parts = self.parts();
-        parts[n] = bytes;
-        parts
     }
 }
 

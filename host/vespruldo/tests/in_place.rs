@@ -3,6 +3,7 @@
 
 mod common;
 
+use common::cards::{Card, Parts};
 use common::pairs::{judged, open_in_place, seal_in_place};
 use common::{emulated, times, up_to, with_flip, LONGEST_DATA, LONGEST_TEXT};
 use second::random::Random;
@@ -12,19 +13,6 @@ use vespruldo::{slices, Data, Key, Nonce, Refusal, Tag, UsedNonce};
 /// buffer to another alone, and a wrong tag on it is left to tests/guarded.
 fn with_second(text_len: usize) -> bool {
     text_len < LONGEST_TEXT || !emulated()
-}
-
-/// What is opened: key, nonce, associated data, tag and ciphertext.
-type Parts<'a> = [&'a [u8]; 5];
-
-/// A text that was sealed.
-struct Card {
-    key: Vec<u8>,
-    nonce: Vec<u8>,
-    data: Vec<u8>,
-    text: Vec<u8>,
-    ciphertext: Vec<u8>,
-    tag: Vec<u8>,
 }
 
 impl Card {
@@ -78,28 +66,11 @@ impl Card {
         assert_eq!(opened, Ok(()));
         assert!(buffer == self.text, "text {}", self.text.len());
     }
-
-    fn parts(&self) -> Parts<'_> {
-        [
-            &self.key,
-            &self.nonce,
-            &self.data,
-            &self.tag,
-            &self.ciphertext,
-        ]
-    }
-
-    /// The parts with these bytes in place of part `n`.
-    fn with<'a>(&'a self, n: usize, bytes: &'a [u8]) -> Parts<'a> {
-        let mut parts = self.parts();
-        parts[n] = bytes;
-        parts
-    }
 }
 
 /// Both refuse to open these with 7, which leaves zeros: `refused` looks at every
 /// byte. So does the crate's root.
-fn refuse([key, nonce, data, tag, ciphertext]: Parts) {
+fn refuse([key, nonce, data, ciphertext, tag]: Parts) {
     open_in_place().refused(7, [key, nonce, data, tag], [ciphertext]);
     let key = Key::try_from(key).expect("a key");
     let nonce = UsedNonce::try_from(nonce).expect("a nonce");
@@ -238,7 +209,7 @@ fn longest_data_and_texts_are_sealed_and_opened_again() {
     for (data_len, text_len) in [(LONGEST_DATA, 17), (3, 65_536), (0, LONGEST_TEXT)] {
         let card = Card::random(&mut random, data_len, text_len);
         if with_second(text_len) {
-            refuse(card.with(3, &with_flip(&card.tag, 127)));
+            refuse(card.with(4, &with_flip(&card.tag, 127)));
         }
     }
     compare(&mut random, [16, 12, LONGEST_DATA + 1, 17, 16]);

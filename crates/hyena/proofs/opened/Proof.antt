@@ -62,8 +62,8 @@ returns-2 c =
     let s = c .before in
     let n = s .before .before .before .before in
     let b = n .before .before in
-    opened-is gift (given (b .before)) _ _ (lengths b) (small n .0) (small n .1) (n .run .ensures .0) (n .run .ensures .1)
-    (s .before .load .ensures) (sym (s .equal .ensures) ∙ c .if2 .taken)
+    opened-is gift (given (b .before)) _ _ (lengths b) (small n .0) (small n .1) (n .run .ensures .0)
+    (n .run .ensures .1) (s .before .load .ensures) (sym (s .equal .ensures) ∙ c .if2 .taken)
 
 wipe-requires : tie.Need-wipe-requires
 wipe-requires c κs =
@@ -85,8 +85,8 @@ returns-3 c =
     let s = w .before .before .before in
     let n = s .before .before .before .before in
     let b = n .before .before in
-    wrong-is gift (given (b .before)) _ _ (lengths b) (small n .0) (small n .1) (n .run .ensures .0) (n .run .ensures .1)
-    (s .before .load .ensures) (b .before .before .source-len .ensures)
+    wrong-is gift (given (b .before)) _ _ (lengths b) (small n .0) (small n .1) (n .run .ensures .0)
+    (n .run .ensures .1) (s .before .load .ensures) (b .before .before .source-len .ensures)
     (sym (s .equal .ensures) ∙ w .before .before .if2 .left) (w .wipe .ensures)
 
 pub opened-spec : {M : Type 1} → statement M

@@ -63,7 +63,8 @@ pub fn card_seal(
 }
 
 /// Opens a card of [`card_seal`] or of the tool `cards`: the text goes to the
-/// first bytes of `room`, as many as the card says that it has. The rest of
+/// first bytes of `room`. It has `card.len() - 30` bytes, and room for so many is
+/// always enough; what is shorter than 30 is no card, and needs none. The rest of
 /// longer room keeps its bytes.
 ///
 /// If the tag is not the recomputed one, this is refused and the same bytes of

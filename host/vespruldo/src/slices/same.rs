@@ -1,8 +1,9 @@
 //! The comparison of bytes in constant time.
 
 /// Whether `a` and `b` have the same length and the same bytes. The time that
-/// this takes depends on their lengths alone, and tells nobody how many bytes of
-/// a forged digest are right. `==` on slices may stop at the first that differs.
+/// this takes tells their lengths and at most the answer, and nobody how many
+/// bytes of a forged digest are right. `==` on slices may stop at the first that
+/// differs.
 ///
 /// ```
 /// use vespruldo::{blake2b, same};

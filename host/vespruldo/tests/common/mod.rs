@@ -4,6 +4,7 @@
 #![allow(dead_code)]
 
 pub mod books;
+pub mod cards;
 pub mod pairs;
 
 use std::env;
