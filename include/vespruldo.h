@@ -3,7 +3,8 @@
    Link with libvespruldo.a. It is x86-64 code with System V calls, in ELF, for
    Linux and the like, not for Windows, macOS or x32; any x86-64 processor will
    do. It is position-independent and takes nothing but memcpy and memset, from
-   any C library (tried with glibc).
+   any C library (tried with glibc). It uses SSE2's registers, as all x86-64 code
+   may: where there is no operating system, the program turns them on.
 
    Buffers. A buffer is a pointer and a length: how many bytes there are at that
    place. A length that a function does not allow is refused, whatever it is. If
@@ -381,9 +382,12 @@ VESPRULDO_LOOK_AT_ANSWER
 vespruldo_drawn_iv vespruldo_drawer_iv(vespruldo_drawer drawer);
 
 /* The bytes to store a drawer by: the reader number in 4, the count in 8, both
-   little-endian, and the BLAKE2b digest of these 12 in 32, without a key. Where
-   writing can be cut off, write to two places in turn, and after a restart go on
-   from the one that can be loaded and has the greater count.
+   little-endian, and the BLAKE2b digest of these 12 in 32, without a key.
+
+   Where writing can be cut off, a drawer needs two places, as in
+   examples/flash.c: after a restart go on from the one with the greater count
+   and write to the other first; if only one can be loaded, draw and store once
+   more, and throw that number away.
 
    They are the drawer file of the office's tool `cards`. Programs that draw from
    one file must take turns, or both draw the same number: while it draws, each

@@ -20,7 +20,7 @@ use crate::slices;
 /// let plain = *b"forty bytes: a wide block is one of them";
 ///
 /// let mut block = plain;
-/// let iv = lioness_encipher(&key, Drawer::start(7, 0).draw_iv()?, &mut block)?;
+/// let iv = lioness_encipher(&key, Drawer::start(42, 0).draw_iv()?, &mut block)?;
 /// assert_ne!(block, plain);
 /// lioness_decipher(&key, &iv, &mut block)?;
 /// assert_eq!(block, plain);
@@ -104,7 +104,7 @@ fn never_refused(result: Result<(), Refusal>) {
 ///
 /// ```compile_fail,E0382
 /// # use vespruldo::{chacha20, Drawer, StreamKey};
-/// # let (mut drawer, key) = (Drawer::start(7, 0), StreamKey::from([1; 32]));
+/// # let (mut drawer, key) = (Drawer::start(42, 0), StreamKey::from([1; 32]));
 /// # let (mut anna, mut bert) = (*b"Anna, desk 4", *b"Bert, desk 9");
 /// let nonce = drawer.draw()?;
 /// chacha20(&key, nonce, 0, &mut anna)?;
@@ -120,7 +120,7 @@ fn never_refused(result: Result<(), Refusal>) {
 ///
 /// let key = StreamKey::from([1; 32]);
 /// let mut text = *b"Anna, desk 4";
-/// let nonce = chacha20(&key, Drawer::start(7, 0).draw()?, 0, &mut text)?;
+/// let nonce = chacha20(&key, Drawer::start(42, 0).draw()?, 0, &mut text)?;
 /// assert_ne!(text, *b"Anna, desk 4");
 /// chacha20_again(&key, &nonce, 0, &mut text)?;
 /// assert_eq!(text, *b"Anna, desk 4");
@@ -156,7 +156,7 @@ pub fn chacha20(
 /// // In parts of whole blocks, but for the last one: 128 bytes are two of them.
 /// let mut in_parts = song;
 /// let (first, last) = in_parts.split_at_mut(128);
-/// let nonce = chacha20(&key, Drawer::start(7, 0).draw()?, 0, first)?;
+/// let nonce = chacha20(&key, Drawer::start(42, 0).draw()?, 0, first)?;
 /// chacha20_again(&key, &nonce, 2, last)?;
 ///
 /// chacha20_again(&key, &nonce, 0, &mut in_parts)?;
@@ -213,7 +213,7 @@ mod tests {
         let allowed = [LIONESS_BLOCK_MIN, LIONESS_BLOCK_MAX];
         let refused = [0, LIONESS_BLOCK_MIN - 1, LIONESS_BLOCK_MAX + 1];
         let encipher: Tried = &|block| {
-            let used = lioness_encipher(&key, Iv::from(iv), block)?;
+            let used = lioness_encipher(&key, Iv::never_used(iv), block)?;
             assert_eq!(used, UsedIv::from(iv));
             Ok(())
         };
@@ -231,7 +231,7 @@ mod tests {
         let key = StreamKey::from([1; 32]);
         let mut again = text.to_vec();
         let refused = chacha20_again(&key, &UsedNonce::from([2; 12]), start, &mut again);
-        let used = chacha20(&key, Nonce::from([2; 12]), start, text);
+        let used = chacha20(&key, Nonce::never_used([2; 12]), start, text);
         assert_eq!(used, refused.map(|()| UsedNonce::from([2; 12])));
         assert!(again == text, "start {start}");
         refused

@@ -9,8 +9,8 @@ const NO_ENTRIES: [u8; 2] = [0, 0];
 
 /// Looks up the key of `class` in this term's key book and, if that has none, in
 /// last term's, if there is one. The key handed back is that part of the book
-/// itself, not a copy; if both books have an entry for the class, this term's
-/// book wins.
+/// itself, not a copy, and stays there: nothing wipes it. If both books have an
+/// entry for the class, this term's book wins.
 ///
 /// A key book is a count of two bytes, then for each entry a class number of
 /// two bytes and a key of 16, all numbers little-endian. Both books are judged
@@ -25,7 +25,7 @@ const NO_ENTRIES: [u8; 2] = [0, 0];
 ///
 /// let key = find_key(&this_term, Some(&last_term), 7)?;
 /// assert_eq!(key.as_bytes(), &[1; 16]);
-/// let sealed = seal(key, Drawer::start(7, 0).draw()?, Data(b"class 7"), b"Anna, desk 4")?;
+/// let sealed = seal(key, Drawer::start(42, 0).draw()?, Data(b"class 7"), b"Anna, desk 4")?;
 /// assert_eq!(open(key, Data(b"class 7"), &sealed)?, b"Anna, desk 4");
 ///
 /// let key = find_key(&this_term, Some(&last_term), 300)?;

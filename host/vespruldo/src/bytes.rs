@@ -13,12 +13,13 @@ use crate::sizes::{
 // One type serves both.
 const _: () = assert!(CHACHA20_NONCE_BYTES == NONCE_BYTES);
 
-/// A type of `$len` bytes; a slice of another length is refused with `$refusal`.
+/// A type of `$len` bytes.
 macro_rules! bytes {
-    ($(#[$about:meta])* $name:ident, $len:expr, $refusal:ident) => {
+    ($(#[$about:meta])* $name:ident, $len:expr) => {
         $(#[$about])*
         // `from_ref` of the secret ones relies on this layout.
         #[repr(transparent)]
+        #[must_use]
         pub struct $name([u8; $len]);
 
         impl $name {
@@ -28,7 +29,13 @@ macro_rules! bytes {
                 &self.0
             }
         }
+    };
+}
 
+/// Takes arrays for the type, and slices; one of another length is refused with
+/// `$refusal`.
+macro_rules! taken_from_bytes {
+    ($name:ident, $len:expr, $refusal:ident) => {
         impl From<[u8; $len]> for $name {
             fn from(bytes: [u8; $len]) -> $name {
                 $name(bytes)
@@ -71,13 +78,14 @@ macro_rules! secret {
             /// reaches the place where it then lies. It does not reach an array
             /// or slice that it was made from, places that it was moved out of,
             /// or what the compiler and the archive left on the stack.
-            $name, $len, KeyLength
+            $name, $len
         }
+
+        taken_from_bytes! { $name, $len, KeyLength }
 
         impl $name {
             /// Takes bytes that lie elsewhere for a key, in place: they are
             /// neither copied nor wiped.
-            #[must_use]
             pub fn from_ref(bytes: &[u8; $len]) -> &$name {
                 // SAFETY: the type holds these bytes alone and has their layout.
                 // What is answered is lent for as long as they are, and what is
@@ -103,8 +111,8 @@ macro_rules! secret {
 /// Bytes that may be read by anybody. `Display` prints them in hex, and `Debug`
 /// with the type's name around them.
 macro_rules! public {
-    ($(#[$about:meta])* $name:ident, $len:expr, $refusal:ident) => {
-        bytes! { $(#[$about])* $name, $len, $refusal }
+    ($(#[$about:meta])* $name:ident, $len:expr) => {
+        bytes! { $(#[$about])* $name, $len }
 
         impl $name {
             /// The bytes as an array.
@@ -143,13 +151,24 @@ macro_rules! used_once {
         $(#[$about_used:meta])* $used:ident;
         $len:expr
     ) => {
-        public! { $(#[$about])* #[derive(PartialEq, Eq, Hash)] $name, $len, NonceLength }
+        public! { $(#[$about])* #[derive(PartialEq, Eq, Hash)] $name, $len }
+
+        impl $name {
+            /// Takes any bytes for fresh ones: whoever calls this says that they
+            /// were never used under that key, and never will be again. It is no
+            /// `From`, since compilers propose `.into()` to whoever is in a hurry.
+            pub fn never_used(bytes: [u8; $len]) -> $name {
+                $name(bytes)
+            }
+        }
 
         public! {
             $(#[$about_used])*
-            #[derive(Clone, PartialEq, Eq, Hash)]
-            $used, $len, NonceLength
+            #[derive(Clone, Copy, PartialEq, Eq, Hash)]
+            $used, $len
         }
+
+        taken_from_bytes! { $used, $len, NonceLength }
 
         /// What is used stays so: there is no way back.
         impl From<$name> for $used {
@@ -205,7 +224,7 @@ used_once! {
     ///
     /// ```compile_fail,E0382
     /// # use vespruldo::{seal, Data, Drawer, Key};
-    /// # let (mut drawer, key) = (Drawer::start(7, 0), Key::from([1; 16]));
+    /// # let (mut drawer, key) = (Drawer::start(42, 0), Key::from([1; 16]));
     /// let nonce = drawer.draw()?;
     /// let anna = seal(&key, nonce, Data(b"class 7"), b"Anna, desk 4")?;
     /// let bert = seal(&key, nonce, Data(b"class 7"), b"Bert, desk 9")?;
@@ -218,32 +237,40 @@ used_once! {
     ///
     /// ```compile_fail,E0308
     /// # use vespruldo::{seal, Data, Drawer, Key};
-    /// # let (mut drawer, key) = (Drawer::start(7, 0), Key::from([1; 16]));
+    /// # let (mut drawer, key) = (Drawer::start(42, 0), Key::from([1; 16]));
     /// let anna = seal(&key, drawer.draw()?, Data(b"class 7"), b"Anna, desk 4")?;
     /// let bert = seal(&key, anna.nonce, Data(b"class 7"), b"Bert, desk 9")?;
     /// # Ok::<(), vespruldo::Refusal>(())
     /// ```
     ///
-    /// This stops a slip, not intent: `Nonce::from` takes any bytes for fresh
-    /// ones. Whoever calls it says that they were never used under that key.
+    /// Nor do bytes become a nonce by themselves:
+    ///
+    /// ```compile_fail,E0277
+    /// # use vespruldo::{seal, Data, Key};
+    /// # let key = Key::from([1; 16]);
+    /// let anna = seal(&key, [2; 12].into(), Data(b"class 7"), b"Anna, desk 4")?;
+    /// # Ok::<(), vespruldo::Refusal>(())
+    /// ```
+    ///
+    /// This stops a slip, not intent, which has a name of its own:
     ///
     /// ```
     /// use vespruldo::{Drawer, Nonce};
     ///
-    /// let nonce = Nonce::from([7, 0, 0, 0, 2, 1, 0, 0, 0, 0, 0, 0]);
-    /// assert_eq!(nonce, Drawer::start(7, 258).draw()?);
-    /// assert_eq!(nonce.to_string(), "070000000201000000000000");
+    /// let nonce = Nonce::never_used([42, 0, 0, 0, 2, 1, 0, 0, 0, 0, 0, 0]);
+    /// assert_eq!(nonce, Drawer::start(42, 258).draw()?);
+    /// assert_eq!(nonce.to_string(), "2a0000000201000000000000");
     /// # Ok::<(), vespruldo::Refusal>(())
     /// ```
     Nonce;
     /// The nonce that something was sealed with: 12 bytes, for opening only, and
     /// for [`chacha20_again`](crate::chacha20_again). It is public, and may be
-    /// cloned, compared and stored.
+    /// copied, compared and stored.
     ///
     /// ```
     /// use vespruldo::{Refusal, UsedNonce};
     ///
-    /// let stored = [7, 0, 0, 0, 2, 1, 0, 0, 0, 0, 0, 0];
+    /// let stored = [42, 0, 0, 0, 2, 1, 0, 0, 0, 0, 0, 0];
     /// assert_eq!(UsedNonce::try_from(&stored[..])?, UsedNonce::from(stored));
     /// assert_eq!(UsedNonce::try_from(&stored[1..]), Err(Refusal::NonceLength));
     /// # Ok::<(), Refusal>(())
@@ -262,7 +289,7 @@ used_once! {
     ///
     /// ```compile_fail,E0382
     /// # use vespruldo::{lioness_encipher, Drawer, WideKey};
-    /// # let (mut drawer, key) = (Drawer::start(7, 0), WideKey::from([1; 128]));
+    /// # let (mut drawer, key) = (Drawer::start(42, 0), WideKey::from([1; 128]));
     /// # let (mut verse, mut chorus) = ([1; 40], [2; 40]);
     /// let iv = drawer.draw_iv()?;
     /// lioness_encipher(&key, iv, &mut verse)?;
@@ -270,10 +297,11 @@ used_once! {
     /// # Ok::<(), vespruldo::Refusal>(())
     /// ```
     ///
-    /// This stops a slip, not intent: `Iv::from` takes any bytes for fresh ones.
+    /// This stops a slip, not intent, which has a name of its own:
+    /// [`Iv::never_used`].
     Iv;
     /// The iv that a block was enciphered with: 48 bytes, for deciphering only. It
-    /// is public, and may be cloned, compared and stored.
+    /// is public, and may be copied, compared and stored.
     UsedIv;
     LIONESS_IV_BYTES
 }
@@ -289,9 +317,11 @@ public! {
     ///     tags[0] == tags[1]
     /// }
     /// ```
-    #[derive(Clone)]
-    Tag, TAG_BYTES, TagLength
+    #[derive(Clone, Copy)]
+    Tag, TAG_BYTES
 }
+
+taken_from_bytes! { Tag, TAG_BYTES, TagLength }
 
 #[cfg(test)]
 mod tests {
@@ -353,11 +383,11 @@ mod tests {
     }
 
     /// Of `N` bytes 0x0b: `Display`, `Debug` and `AsRef`.
-    fn shows_its_bytes<T, const N: usize>(name: &str)
+    fn shows_its_bytes<T, const N: usize>(name: &str, taken: fn([u8; N]) -> T)
     where
-        T: From<[u8; N]> + AsRef<[u8]> + fmt::Display + fmt::Debug,
+        T: AsRef<[u8]> + fmt::Display + fmt::Debug,
     {
-        let public = T::from([11; N]);
+        let public = taken([11; N]);
         let in_hex = "0b".repeat(N);
         assert_eq!(public.as_ref(), [11; N]);
         assert_eq!(public.to_string(), in_hex);
@@ -366,11 +396,11 @@ mod tests {
 
     #[test]
     fn what_is_public_is_shown_in_hex() {
-        shows_its_bytes::<Nonce, 12>("Nonce");
-        shows_its_bytes::<UsedNonce, 12>("UsedNonce");
-        shows_its_bytes::<Iv, 48>("Iv");
-        shows_its_bytes::<UsedIv, 48>("UsedIv");
-        shows_its_bytes::<Tag, 16>("Tag");
+        shows_its_bytes("Nonce", Nonce::never_used);
+        shows_its_bytes::<_, 12>("UsedNonce", UsedNonce::from);
+        shows_its_bytes("Iv", Iv::never_used);
+        shows_its_bytes::<_, 48>("UsedIv", UsedIv::from);
+        shows_its_bytes::<_, 16>("Tag", Tag::from);
         let tag = Tag::from(std::array::from_fn(|i| 17 * i as u8));
         assert_eq!(tag.to_string(), "00112233445566778899aabbccddeeff");
     }
@@ -395,9 +425,12 @@ mod tests {
         none_has!(fmt::Display: Key StreamKey WideKey);
         none_has!(AsRef<[u8]>: Key StreamKey WideKey);
         none_has!(Default: Key StreamKey WideKey Nonce UsedNonce Iv UsedIv Tag);
-        // No way back from a number that was used.
+        // No way back from a number that was used, and none from bytes unasked.
         none_has!(From<UsedNonce>: Nonce);
         none_has!(From<UsedIv>: Iv);
+        none_has!(From<[u8; 12]>: Nonce);
+        none_has!(From<[u8; 48]>: Iv);
+        none_has!(TryFrom<&'static [u8]>: Nonce Iv);
     }
 
     /// Of slices of 0 to 200 bytes, those of `N` are taken as they are and all
@@ -420,9 +453,7 @@ mod tests {
         takes_one_length(Key::as_bytes, Refusal::KeyLength);
         takes_one_length(StreamKey::as_bytes, Refusal::KeyLength);
         takes_one_length(WideKey::as_bytes, Refusal::KeyLength);
-        takes_one_length(Nonce::as_bytes, Refusal::NonceLength);
         takes_one_length(UsedNonce::as_bytes, Refusal::NonceLength);
-        takes_one_length(Iv::as_bytes, Refusal::NonceLength);
         takes_one_length(UsedIv::as_bytes, Refusal::NonceLength);
         takes_one_length(Tag::as_bytes, Refusal::TagLength);
     }
@@ -430,11 +461,13 @@ mod tests {
     #[test]
     fn arrays_come_back_as_they_went_in() {
         let bytes: [u8; 48] = std::array::from_fn(|i| i as u8);
-        assert_eq!(Iv::from(bytes).into_bytes(), bytes);
-        assert_eq!(Iv::from(bytes), Iv::from(bytes));
-        assert_ne!(Iv::from(bytes), Iv::from([0; 48]));
-        assert_eq!(UsedIv::from(Iv::from(bytes)).into_bytes(), bytes);
+        let fresh = || Iv::never_used(bytes);
+        assert_eq!(fresh().into_bytes(), bytes);
+        assert_eq!(fresh(), fresh());
+        assert_ne!(fresh(), Iv::never_used([0; 48]));
+        assert_eq!(UsedIv::from(fresh()).into_bytes(), bytes);
         let nonce = [7, 0, 0, 0, 2, 1, 0, 0, 0, 0, 0, 0];
-        assert_eq!(UsedNonce::from(Nonce::from(nonce)).into_bytes(), nonce);
+        let fresh = Nonce::never_used(nonce);
+        assert_eq!(UsedNonce::from(fresh).into_bytes(), nonce);
     }
 }

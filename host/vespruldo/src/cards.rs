@@ -13,6 +13,7 @@ use crate::slices;
 /// What was sealed: all that opening needs, apart from the key and the associated
 /// data. All of it is public.
 #[derive(Clone, Debug)]
+#[must_use]
 pub struct Sealed {
     /// The nonce that it was sealed with.
     pub nonce: UsedNonce,
@@ -32,7 +33,7 @@ impl Sealed {
     /// use vespruldo::{seal, Data, Drawer, Key, Sealed};
     ///
     /// let key = Key::from([1; 16]);
-    /// let sealed = seal(&key, Drawer::start(7, 0).draw()?, Data(b"class 7"), b"Anna, desk 4")?;
+    /// let sealed = seal(&key, Drawer::start(42, 0).draw()?, Data(b"class 7"), b"Anna, desk 4")?;
     /// let stored = sealed.to_bytes()?;
     /// assert_eq!(stored.len(), 12 + 30);
     /// assert_eq!(stored[..12], *sealed.nonce.as_bytes());
@@ -64,7 +65,7 @@ impl Sealed {
     /// use vespruldo::{open_short, seal_short, Drawer, Key, Refusal, Sealed};
     ///
     /// let key = Key::from([1; 16]);
-    /// let stored = seal_short(&key, Drawer::start(7, 0).draw()?, b"Anna, desk 4")?.to_bytes()?;
+    /// let stored = seal_short(&key, Drawer::start(42, 0).draw()?, b"Anna, desk 4")?.to_bytes()?;
     /// assert_eq!(open_short(&key, &Sealed::from_bytes(&stored)?)?, b"Anna, desk 4");
     ///
     /// let refused = Sealed::from_bytes(&stored[..41]);
@@ -145,7 +146,7 @@ fn sealed(
 /// use vespruldo::{open, seal, Data, Drawer, Key};
 ///
 /// let key = Key::from([1; 16]);
-/// let mut drawer = Drawer::start(7, 0);
+/// let mut drawer = Drawer::start(42, 0);
 ///
 /// let sealed = seal(&key, drawer.draw()?, Data(b"class 7"), b"Anna, desk 4")?;
 /// assert_eq!(sealed.ciphertext.len(), 12);
@@ -176,7 +177,7 @@ pub fn seal(key: &Key, nonce: Nonce, data: Data, text: &[u8]) -> Result<Sealed, 
 /// use vespruldo::{open, seal, Data, Drawer, Key, Refusal};
 ///
 /// let key = Key::from([1; 16]);
-/// let mut drawer = Drawer::start(7, 0);
+/// let mut drawer = Drawer::start(42, 0);
 /// let mut sealed = seal(&key, drawer.draw()?, Data(b"class 7"), b"Anna, desk 4")?;
 ///
 /// assert_eq!(open(&key, Data(b"class 7"), &sealed)?, b"Anna, desk 4");
@@ -225,7 +226,7 @@ pub fn seal_short(key: &Key, nonce: Nonce, text: &[u8]) -> Result<Sealed, Refusa
 /// use vespruldo::{open, open_short, seal_short, Data, Drawer, Key};
 ///
 /// let key = Key::from([1; 16]);
-/// let sealed = seal_short(&key, Drawer::start(7, 0).draw()?, b"Anna, desk 4")?;
+/// let sealed = seal_short(&key, Drawer::start(42, 0).draw()?, b"Anna, desk 4")?;
 /// assert_eq!(open_short(&key, &sealed)?, b"Anna, desk 4");
 /// assert_eq!(open(&key, Data(b""), &sealed)?, b"Anna, desk 4");
 /// # Ok::<(), vespruldo::Refusal>(())
@@ -256,7 +257,7 @@ mod tests {
     }
 
     fn nonce() -> Nonce {
-        Nonce::from([2; 12])
+        Nonce::never_used([2; 12])
     }
 
     /// Something sealed that opening must look at, with a ciphertext of its own.

@@ -8,7 +8,7 @@
 ///
 /// ```compile_fail,E0308
 /// # use vespruldo::{seal, Data, Drawer, Key};
-/// # let (mut drawer, key) = (Drawer::start(7, 0), Key::from([1; 16]));
+/// # let (mut drawer, key) = (Drawer::start(42, 0), Key::from([1; 16]));
 /// let sealed = seal(&key, drawer.draw()?, b"Anna, desk 4", Data(b"class 7"))?;
 /// # Ok::<(), vespruldo::Refusal>(())
 /// ```

@@ -16,7 +16,7 @@ use crate::sizes::DRAWER_BYTES;
 /// numbers again:
 ///
 /// ```compile_fail,E0599
-/// let drawer = vespruldo::Drawer::start(7, 0);
+/// let drawer = vespruldo::Drawer::start(42, 0);
 /// let copy = drawer.clone();
 /// ```
 ///
@@ -26,7 +26,7 @@ use crate::sizes::DRAWER_BYTES;
 /// use vespruldo::{open, seal, Data, Drawer, Key};
 ///
 /// let key = Key::from([1; 16]);
-/// let mut drawer = Drawer::start(7, 0);
+/// let mut drawer = Drawer::start(42, 0);
 /// for text in [b"Anna", b"Bert"] {
 ///     let sealed = seal(&key, drawer.draw()?, Data(b"class 7"), text)?;
 ///     assert_eq!(open(&key, Data(b"class 7"), &sealed)?, text);
@@ -42,7 +42,7 @@ use crate::sizes::DRAWER_BYTES;
 /// ```
 /// use vespruldo::Drawer;
 ///
-/// let mut drawer = Drawer::start(7, 0);
+/// let mut drawer = Drawer::start(42, 0);
 /// let older = drawer.to_bytes();
 /// let nonce = drawer.draw()?;
 /// let newer = drawer.to_bytes();
@@ -79,11 +79,11 @@ impl Drawer {
     /// ```
     /// use vespruldo::{Drawer, Refusal};
     ///
-    /// let mut drawer = Drawer::start(7, u64::MAX - 1);
+    /// let mut drawer = Drawer::start(42, u64::MAX - 1);
     /// assert!(drawer.draw().is_ok());
     /// assert_eq!(drawer.draw(), Err(Refusal::DrawerSpent));
     /// assert_eq!(drawer.draw_iv(), Err(Refusal::DrawerSpent));
-    /// assert_eq!(drawer, Drawer::start(7, u64::MAX));
+    /// assert_eq!(drawer, Drawer::start(42, u64::MAX));
     /// ```
     ///
     /// # Errors
@@ -92,7 +92,7 @@ impl Drawer {
     pub fn draw(&mut self) -> Result<Nonce, Refusal> {
         // SAFETY: see the crate's root.
         self.hand_over(|drawer| unsafe { vespruldo_drawer_draw(drawer) })
-            .map(Nonce::from)
+            .map(Nonce::never_used)
     }
 
     /// Draws an iv: one [`draw`](Drawer::draw) written four times.
@@ -100,11 +100,11 @@ impl Drawer {
     /// ```
     /// use vespruldo::Drawer;
     ///
-    /// let mut drawer = Drawer::start(7, 258);
+    /// let mut drawer = Drawer::start(42, 258);
     /// let iv = drawer.draw_iv()?.into_bytes();
     /// assert_eq!(drawer.count(), 259);
     ///
-    /// let nonce = Drawer::start(7, 258).draw()?.into_bytes();
+    /// let nonce = Drawer::start(42, 258).draw()?.into_bytes();
     /// assert_eq!(iv[..], nonce.repeat(4));
     /// # Ok::<(), vespruldo::Refusal>(())
     /// ```
@@ -115,7 +115,7 @@ impl Drawer {
     pub fn draw_iv(&mut self) -> Result<Iv, Refusal> {
         // SAFETY: see the crate's root.
         self.hand_over(|drawer| unsafe { vespruldo_drawer_iv(drawer) })
-            .map(Iv::from)
+            .map(Iv::never_used)
     }
 
     /// The reader number.
@@ -139,13 +139,19 @@ impl Drawer {
     ///
     /// Store these after each draw, before the number drawn is used: a restart
     /// that goes on from them never draws that number again. Never go on from
-    /// older ones, as those of a backup are. Where writing can be cut off, write
-    /// to two places in turn, and after a restart go on from the one that can be
-    /// loaded and has the greater count.
+    /// older ones, as those of a backup are.
+    ///
+    /// Where writing can be cut off, a drawer needs two places, as in
+    /// `examples/flash.c` of the repository: after a restart go on from the one
+    /// with the greater count and write to the other first; if only one can be
+    /// loaded, draw and store once more, and throw that number away. In a file
+    /// system, write a new file in the same folder, sync it, rename it over the
+    /// old one, and sync the folder.
     ///
     /// Programs that draw from one file must take turns, or both draw the same
-    /// number: while it draws, the tool keeps a folder `FILE.next`, and so must
-    /// whoever shares its file.
+    /// number. While the tool `cards` draws, there is a folder `FILE.next`:
+    /// whoever shares its file makes that folder first, fails if it is there, and
+    /// removes it last, as in `examples/reader.c`.
     #[must_use]
     pub fn to_bytes(&self) -> [u8; DRAWER_BYTES] {
         // SAFETY: see the crate's root.
@@ -158,7 +164,7 @@ impl Drawer {
     /// ```
     /// use vespruldo::{Drawer, Refusal};
     ///
-    /// let mut drawer = Drawer::start(7, 0);
+    /// let mut drawer = Drawer::start(42, 0);
     /// let nonce = drawer.draw()?;
     /// let mut stored = drawer.to_bytes(); // written to the reader's memory here
     /// // Now the nonce may be used.

@@ -18,7 +18,7 @@ use crate::slices;
 /// use vespruldo::{open_in_place, seal_in_place, Data, Drawer, Key};
 ///
 /// let key = Key::from([1; 16]);
-/// let mut drawer = Drawer::start(7, 0);
+/// let mut drawer = Drawer::start(42, 0);
 ///
 /// let mut buffer = *b"Anna, desk 4";
 /// let (nonce, tag) = seal_in_place(&key, drawer.draw()?, Data(b"class 7"), &mut buffer)?;
@@ -56,7 +56,7 @@ pub fn seal_in_place(
 ///
 /// let key = Key::from([1; 16]);
 /// let mut buffer = *b"Anna, desk 4";
-/// let nonce = Drawer::start(7, 0).draw()?;
+/// let nonce = Drawer::start(42, 0).draw()?;
 /// let (nonce, tag) = seal_in_place(&key, nonce, Data(b"class 7"), &mut buffer)?;
 ///
 /// let refused = open_in_place(&key, &nonce, Data(b"class 8"), &mut buffer, &tag);

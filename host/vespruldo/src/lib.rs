@@ -8,7 +8,9 @@
 //! use vespruldo::{open, seal, Data, Drawer, Key, Refusal, Sealed};
 //!
 //! let key = Key::from([1; 16]);
-//! let mut drawer = Drawer::start(7, 0); // the reader's number, and the count it had reached
+//! // The reader's number, and no count so far. Only when the reader is set up: done
+//! // again, it would repeat nonces. From then on there is what was stored of it.
+//! let mut drawer = Drawer::start(42, 0);
 //! let nonce = drawer.draw()?;
 //! // Here the new `drawer.to_bytes()` is stored, before the nonce is used.
 //! let stored = seal(&key, nonce, Data(b"class 7"), b"Anna, desk 4")?.to_bytes()?;
@@ -37,15 +39,16 @@
 //! let this_term = [&[1, 0, 7, 0][..], &[1; 16]].concat();
 //!
 //! let key = find_key(&this_term, None, 7)?;
-//! let card = seal(key, Drawer::start(7, 0).draw()?, Data(b"class 7"), b"Anna, desk 4")?;
+//! let card = seal(key, Drawer::start(42, 0).draw()?, Data(b"class 7"), b"Anna, desk 4")?;
 //! # Ok::<(), vespruldo::Refusal>(())
 //! ```
 //!
 //! What is refused comes back as a [`Refusal`], with its number and its words.
 //! The types rule out the rest:
 //!
-//! - A key, nonce, iv or tag has the right length from the moment it is made.
-//! - [`Data`], which is not hidden, cannot be exchanged with the text, which is.
+//! - A key, nonce, iv or tag has the right length from the moment it is made. (Of
+//!   BLAKE2b key and digest are slices, and may have a wrong one.)
+//! - The text, which is hidden, cannot stand where [`Data`] must, which is not.
 //! - A fresh number and a used one are different types. A [`Nonce`] and an [`Iv`]
 //!   cannot be copied, and [`seal`], [`seal_short`], [`seal_in_place`],
 //!   [`chacha20`] and [`lioness_encipher`] take theirs for good: none is used
@@ -57,9 +60,10 @@
 //!   bytes, and is wiped when dropped.
 //! - If [`open`] refuses, there is no text to read.
 //!
-//! All this stops slips, not intent: `Nonce::from` and `Iv::from` take any bytes
-//! for fresh ones, a drawer that is started again from an older count hands out
-//! the same numbers again, and [`slices`] takes whatever bytes it is lent.
+//! All this stops slips, not intent: [`Nonce::never_used`] and [`Iv::never_used`]
+//! take any bytes for fresh ones, a drawer that is started again from an older
+//! count hands out the same numbers again, and [`slices`] takes whatever bytes it
+//! is lent.
 //!
 //! The lengths that are allowed have names in [`sizes`]. The functions in
 //! [`slices`] take slices of any length and write to room that is lent; those at
@@ -68,11 +72,14 @@
 //!
 //! The crate does without `std`. What allocates is in the feature `alloc`, which
 //! is on by default: with `default-features = false` there is no heap, and no
-//! [`Sealed`], [`seal`], [`open`] or short form. [`seal_in_place`] and
-//! [`open_in_place`], [`slices::card_seal`] and [`slices::card_open`] do the same
-//! work in memory that is lent.
+//! [`Sealed`], [`seal`], [`open`] or short form. [`card_seal`] and [`card_open`],
+//! [`seal_in_place`] and [`open_in_place`] do the same work in memory that is
+//! lent. The archive uses SSE2's registers, as all x86-64 code may: where there is
+//! no operating system, the program must have turned them on.
 
 #![cfg_attr(not(test), no_std)]
+// What is not there without a heap is named on these pages all the same.
+#![cfg_attr(not(feature = "alloc"), allow(rustdoc::broken_intra_doc_links))]
 
 #[cfg(feature = "alloc")]
 extern crate alloc;
@@ -86,7 +93,7 @@ extern crate alloc;
 // overlap. Drawers, and answers that are more than a number, go by value in the
 // layout that C gives them; they hold only numbers and bytes, for which every
 // value is allowed. The one `bool` comes back as C has it, in a byte that is 0
-// or 1. The build script links no archive of another interface.
+// or 1. No archive of another interface links: see ASKS_FOR.
 
 #[doc(hidden)]
 pub mod archive;
@@ -98,6 +105,7 @@ mod cards;
 mod data;
 mod drawer;
 mod in_place;
+mod lent;
 mod refusal;
 pub mod sizes;
 pub mod slices;
@@ -112,9 +120,16 @@ pub use cards::{open, open_short, seal, seal_short, Sealed};
 pub use data::Data;
 pub use drawer::Drawer;
 pub use in_place::{open_in_place, seal_in_place};
+pub use lent::{card_open, card_seal};
 pub use refusal::{NotARefusal, Refusal};
 #[doc(inline)]
 pub use slices::{blake2b, same};
+
+/// The build script looks at the archive in one place; a linker may be told of
+/// others. So each program refers to the function whose name has the interface's
+/// number, as the C header has it.
+#[used]
+static ASKS_FOR: unsafe extern "C" fn() -> u32 = archive::vespruldo_interface_1;
 
 /// The Rust of README.md, run with the examples here.
 #[cfg(doctest)]

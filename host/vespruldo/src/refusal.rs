@@ -14,7 +14,7 @@ macro_rules! refusals {
         ///
         /// A later version may have more of them, so a `match` needs a line for
         /// the others.
-        #[derive(Clone, Copy, Debug, PartialEq, Eq, Hash)]
+        #[derive(Clone, Copy, PartialEq, Eq, Hash)]
         #[non_exhaustive]
         pub enum Refusal {
             $(
@@ -33,6 +33,16 @@ macro_rules! refusals {
                 f.write_str(match self {
                     $(Refusal::$name => $words,)+
                 })
+            }
+        }
+
+        /// Name, number and words: what a `main` that answers a refusal prints.
+        impl fmt::Debug for Refusal {
+            fn fmt(&self, f: &mut fmt::Formatter<'_>) -> fmt::Result {
+                let name = match self {
+                    $(Refusal::$name => stringify!($name),)+
+                };
+                write!(f, "{name} ({} {self})", self.number())
             }
         }
     };
@@ -73,8 +83,8 @@ impl Error for Refusal {}
 /// ```
 /// use vespruldo::Refusal;
 ///
-/// let status = 7; // of a run of the tool `cards`
-/// assert_eq!(Refusal::try_from(status), Ok(Refusal::WrongTag));
+/// let status = 7_i32; // what `ExitStatus::code` has of a run of the tool `cards`
+/// assert_eq!(Refusal::try_from(status as u32), Ok(Refusal::WrongTag));
 ///
 /// let why = Refusal::try_from(13).unwrap_err();
 /// assert_eq!(why.to_string(), "13 is not a refusal of this crate");
@@ -147,6 +157,12 @@ mod tests {
             assert_eq!(result_of(refusal.number(), Refusal::ALL), Err(refusal));
             assert_eq!(result_of(refusal.number(), &[refusal]), Err(refusal));
         }
+    }
+
+    #[test]
+    fn a_program_that_fails_tells_name_number_and_words() {
+        let shown = format!("{:?}", Refusal::WrongTag);
+        assert_eq!(shown, "WrongTag (7 opening: tag is not the recomputed one)");
     }
 
     /// Every number that could be one of a byte, and the ends of the others.

@@ -31,10 +31,15 @@ impl Card {
         let rest = bytes.split_off(text_len + CARD_EXTRA);
         assert_eq!(rest, before[text_len + CARD_EXTRA..]);
 
-        let fresh = Nonce::try_from(&nonce[..]).expect("a nonce");
+        let fresh = Nonce::never_used(nonce[..].try_into().expect("a nonce"));
         let sealed = seal(&key_of(&key), fresh, Data(&data), &text).expect("sealed");
         let stored = sealed.to_bytes().expect("a card");
         assert!(stored == bytes, "text {text_len}");
+        let fresh = Nonce::never_used(nonce[..].try_into().expect("a nonce"));
+        let mut room = before.clone();
+        let len = vespruldo::card_seal(&key_of(&key), fresh, Data(&data), &text, &mut room);
+        assert_eq!(len, Ok(text_len + CARD_EXTRA));
+        assert!(room[..text_len + CARD_EXTRA] == bytes, "text {text_len}");
         Card {
             key,
             data,
@@ -56,9 +61,19 @@ impl Card {
         assert!(opened == self.text, "text {}", self.text.len());
     }
 
-    /// What the crate's root makes of these bytes in place of the card's. If it
-    /// takes them apart, they come back as they were.
+    /// What the crate's root makes of these bytes in place of the card's, with
+    /// room that is lent and by taking them apart; then they come back as they
+    /// were.
     fn at_root(&self, bytes: &[u8]) -> Result<Vec<u8>, Refusal> {
+        let mut room = bytes.to_vec();
+        let key = key_of(&self.key);
+        let lent = vespruldo::card_open(&key, Data(&self.data), bytes, &mut room);
+        let apart = self.apart(bytes);
+        assert_eq!(lent.map(|len| room[..len].to_vec()), apart);
+        apart
+    }
+
+    fn apart(&self, bytes: &[u8]) -> Result<Vec<u8>, Refusal> {
         let sealed = Sealed::from_bytes(bytes).inspect_err(|why| {
             assert!([12, 15].contains(&why.number()), "{why}");
         })?;

@@ -10,7 +10,7 @@ use second::{drawer, drawer_file};
 // The archive's functions themselves: the safe ones show neither the bytes that
 // a refused draw answers nor the drawer that it hands back.
 use vespruldo::archive;
-use vespruldo::{Drawer, Refusal};
+use vespruldo::{Drawer, Iv, Nonce, Refusal};
 
 /// What is taken from a drawer: a draw or an iv.
 #[derive(Clone, Copy, Debug)]
@@ -193,8 +193,8 @@ fn zeros_are_told_apart_by_the_number() {
             assert_eq!(taken.raw(reader, u64::MAX), refused);
         }
     }
-    assert_eq!(Drawer::start(0, 0).draw(), Ok([0; 12].into()));
-    assert_eq!(Drawer::start(0, 0).draw_iv(), Ok([0; 48].into()));
+    assert_eq!(Drawer::start(0, 0).draw(), Ok(Nonce::never_used([0; 12])));
+    assert_eq!(Drawer::start(0, 0).draw_iv(), Ok(Iv::never_used([0; 48])));
 }
 
 /// A drawer holds nothing but its two numbers: started again from a count that

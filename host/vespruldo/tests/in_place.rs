@@ -55,7 +55,7 @@ impl Card {
 
     fn is_that_of_the_root(&self) {
         let key = Key::try_from(&self.key[..]).expect("a key");
-        let nonce = Nonce::try_from(&self.nonce[..]).expect("a nonce");
+        let nonce = Nonce::never_used(self.nonce[..].try_into().expect("a nonce"));
         let mut buffer = self.text.clone();
         let sealed = vespruldo::seal_in_place(&key, nonce, Data(&self.data), &mut buffer);
         let (used, tag) = sealed.expect("sealed");
@@ -228,7 +228,7 @@ fn lengths_beyond_the_documents_are_refused_and_leave_the_buffer() {
         (data, LONGEST_TEXT + 1, Refusal::DataLength),
     ] {
         let mut buffer = long[..len].to_vec();
-        let nonce = Nonce::from([2; 12]);
+        let nonce = Nonce::never_used([2; 12]);
         let refused = vespruldo::seal_in_place(&key, nonce, data, &mut buffer);
         assert_eq!(refused.err(), Some(refusal));
         let (nonce, tag) = (UsedNonce::from([2; 12]), Tag::from([3; 16]));

@@ -7,7 +7,8 @@ const PROMISED: [Refusal; 3] = [Refusal::KeyLength, Refusal::TextLength, Refusal
 
 /// Writes the BLAKE2b digest of `text` under `key` to `digest`. The digest has
 /// the length of its room; a shorter one is not the beginning of a longer one.
-/// An empty key is no key. The room is unchanged if this is refused.
+/// An empty key is no key: anybody can make that digest. The room is unchanged if
+/// this is refused.
 ///
 /// ```
 /// // RFC 7693, appendix A.

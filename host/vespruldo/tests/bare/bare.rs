@@ -11,9 +11,9 @@
 use core::panic::PanicInfo;
 
 use vespruldo::{
-    blake2b, chacha20, chacha20_again, find_key, gift_decipher, gift_encipher, lioness_decipher,
-    lioness_encipher, open_in_place, same, seal_in_place, slices, Data, Drawer, Refusal, StreamKey,
-    WideKey,
+    blake2b, card_open, card_seal, chacha20, chacha20_again, find_key, gift_decipher,
+    gift_encipher, lioness_decipher, lioness_encipher, open_in_place, same, seal_in_place, Data,
+    Drawer, Refusal, StreamKey, WideKey,
 };
 
 #[link(name = "c")]
@@ -44,17 +44,15 @@ fn cards(drawer: &mut Drawer) -> Result<(), Refusal> {
     let mut buffer = SONG;
     let (nonce, tag) = seal_in_place(key, drawer.draw()?, LABEL, &mut buffer)?;
     assert_ne!(buffer, SONG);
-    let mut card = [0; 70];
-    slices::card_seal(key.as_bytes(), nonce.as_bytes(), LABEL.0, &SONG, &mut card)?;
-    assert_eq!(card[14..54], buffer);
     open_in_place(key, &nonce, LABEL, &mut buffer, &tag)?;
     assert_eq!(buffer, SONG);
 
-    let mut text = [0; 40];
-    slices::card_open(key.as_bytes(), LABEL.0, &card, &mut text)?;
+    let (mut card, mut text) = ([0; 70], [0; 40]);
+    assert_eq!(card_seal(key, drawer.draw()?, LABEL, &SONG, &mut card)?, 70);
+    assert_eq!(card_open(key, LABEL, &card, &mut text)?, 40);
     assert_eq!(text, SONG);
     card[20] ^= 1;
-    let refused = slices::card_open(key.as_bytes(), LABEL.0, &card, &mut text);
+    let refused = card_open(key, LABEL, &card, &mut text);
     assert_eq!(refused, Err(Refusal::WrongTag));
 
     let mut block = [1; 16];

@@ -1,0 +1,137 @@
+/* Keeps a drawer in two pages of flash memory: no nonce comes twice, whenever
+   the power goes and whichever page is damaged, and no power cut loses the
+   drawer. go_on and next_nonce are a reader's; main tries them, cutting the
+   power again and again. */
+
+#include <stdbool.h>
+#include <stdio.h>
+#include <string.h>
+#include <vespruldo.h>
+
+/* ---- The flash memory, of which a write can be cut off after any byte */
+
+#define PAGES 2
+
+static uint8_t pages[PAGES][VESPRULDO_DRAWER_BYTES];
+static size_t until_cut; /* the bytes that are written before the power goes */
+
+static bool write_page(int page, const uint8_t *bytes)
+{
+    for (size_t i = 0; i < sizeof pages[page]; i++) {
+        if (until_cut == 0)
+            return false;
+        until_cut--;
+        pages[page][i] = bytes[i];
+    }
+    return true;
+}
+
+/* ---- The reader */
+
+#define NO_POWER 255
+
+/* What it has in memory: the drawer, and the page that is written next. */
+struct reader {
+    vespruldo_drawer drawer;
+    int page;
+};
+
+/* Draws a nonce. The drawer's next state is in flash memory before the nonce is
+   handed out, and until it is, the other page has the one before. */
+static uint32_t next_nonce(struct reader *reader, uint8_t *nonce)
+{
+    vespruldo_drawn drawn = vespruldo_drawer_draw(reader->drawer);
+    if (drawn.number != VESPRULDO_DONE)
+        return drawn.number;
+    vespruldo_stored stored = vespruldo_drawer_store(drawn.next);
+    if (!write_page(reader->page, stored.bytes))
+        return NO_POWER;
+    reader->drawer = drawn.next;
+    reader->page = 1 - reader->page;
+    memcpy(nonce, drawn.bytes, sizeof drawn.bytes);
+    return VESPRULDO_DONE;
+}
+
+/* After each start: goes on from the page with the greater count, and writes to
+   the other one first. If only one can be loaded, the other may have had the
+   greater count, and the number before it may be in use: it is drawn once more
+   and thrown away. */
+static uint32_t go_on(struct reader *reader)
+{
+    uint8_t thrown_away[VESPRULDO_NONCE_BYTES];
+    vespruldo_loaded loaded[PAGES];
+    for (int page = 0; page < PAGES; page++)
+        loaded[page] = vespruldo_drawer_load(pages[page], sizeof pages[page]);
+    bool first = loaded[0].number == VESPRULDO_DONE;
+    bool second = loaded[1].number == VESPRULDO_DONE;
+    if (!first && !second)
+        return VESPRULDO_DRAWER_DAMAGED; /* set it up with another number */
+    int newer = second && (!first || loaded[1].drawer.count >
+                                         loaded[0].drawer.count);
+    reader->drawer = loaded[newer].drawer;
+    reader->page = 1 - newer;
+    return first && second ? VESPRULDO_DONE : next_nonce(reader, thrown_away);
+}
+
+/* Once in the life of a reader number; a page is enough. */
+static void set_up(uint32_t number)
+{
+    vespruldo_stored stored =
+        vespruldo_drawer_store(vespruldo_drawer_start(number, 0));
+    memset(pages, 0xff, sizeof pages);
+    memcpy(pages[0], stored.bytes, sizeof stored.bytes);
+}
+
+/* ---- The trial */
+
+#define WRITES 3
+#define MOST (WRITES * VESPRULDO_DRAWER_BYTES)
+
+static bool used[8 * WRITES];
+static int bad;
+
+/* From a start until the power goes. A nonce's bytes 4 to 11 are its count. */
+static uint32_t live(size_t written)
+{
+    struct reader reader;
+    uint8_t nonce[VESPRULDO_NONCE_BYTES];
+    until_cut = written;
+    uint32_t number = go_on(&reader);
+    while (number == VESPRULDO_DONE) {
+        number = next_nonce(&reader, nonce);
+        if (number == VESPRULDO_DONE) {
+            bad |= used[nonce[4]];
+            used[nonce[4]] = true;
+        }
+    }
+    return number;
+}
+
+/* Three lives, and after each of the first two a bit is flipped in a page, or
+   (with PAGES for a page) in none. A drawer may be lost, but not by cuts
+   alone. */
+static void try_it(const size_t cuts[2], const int flipped[2])
+{
+    set_up(42);
+    memset(used, 0, sizeof used);
+    for (int i = 0; i < 2; i++) {
+        live(cuts[i]);
+        if (flipped[i] < PAGES)
+            pages[flipped[i]][20] ^= 1;
+    }
+    if (live(MOST) != NO_POWER && flipped[0] == PAGES && flipped[1] == PAGES)
+        bad = 1;
+}
+
+int main(void)
+{
+    for (size_t cut = 0; cut <= MOST; cut++)
+        for (size_t later = cut % 11; later <= MOST; later += 11)
+            for (int flips = 0; flips < 9; flips++) {
+                const size_t cuts[] = {cut, later};
+                const int flipped[] = {flips / 3, flips % 3};
+                try_it(cuts, flipped);
+            }
+    puts(bad ? "a nonce came twice, or a drawer was lost" : "no nonce came twice");
+    return bad;
+}
