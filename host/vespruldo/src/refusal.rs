@@ -87,7 +87,7 @@ impl Error for Refusal {}
 /// assert_eq!(Refusal::try_from(status as u32), Ok(Refusal::WrongTag));
 ///
 /// let why = Refusal::try_from(13).unwrap_err();
-/// assert_eq!(why.to_string(), "13 is not a refusal of this crate");
+/// assert_eq!(why.to_string(), "13 is not an answer of this version");
 /// let why = Refusal::try_from(0).unwrap_err();
 /// assert_eq!(why.to_string(), "0 is no refusal: it says that all was done");
 /// ```
@@ -120,7 +120,7 @@ impl fmt::Display for NotARefusal {
     fn fmt(&self, f: &mut fmt::Formatter<'_>) -> fmt::Result {
         match self.0 {
             0 => f.write_str("0 is no refusal: it says that all was done"),
-            number => write!(f, "{number} is not a refusal of this crate"),
+            number => write!(f, "{number} is not an answer of this version"),
         }
     }
 }

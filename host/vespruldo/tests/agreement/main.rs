@@ -86,7 +86,10 @@ impl Sources {
         });
         let in_rust = Refusal::ALL.iter().map(|refusal| {
             let number = u64::from(refusal.number());
-            (format!("{refusal:?}"), (number, Some(refusal.to_string())))
+            // `Debug` begins with the name.
+            let shown = format!("{refusal:?}");
+            let name = shown.split(' ').next().unwrap_or_default();
+            (name.to_string(), (number, Some(refusal.to_string())))
         });
         differences([
             ("the header", &in_header.collect()),

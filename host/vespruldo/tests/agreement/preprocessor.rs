@@ -7,10 +7,11 @@ use crate::model::declare;
 use crate::tokens::{in_word, number, without_comments};
 
 /// The conditions that the header has, and whether they hold.
-const CONDITIONS: [(&str, bool); 11] = [
+const CONDITIONS: [(&str, bool); 12] = [
     ("#ifndef VESPRULDO_H", true),
     ("#if !defined(__x86_64__) || defined(__ILP32__)", false),
     ("#if defined(_WIN32) || defined(__CYGWIN__)", false),
+    ("#if defined(__APPLE__)", false),
     ("#ifdef __cplusplus", false),
     ("#if defined(__GNUC__)", true),
     (
@@ -26,12 +27,13 @@ const CONDITIONS: [(&str, bool); 11] = [
 
 /// The lines that such a compiler leaves out: they are for C++, for compilers
 /// that know less, and for other machines.
-const FOR_OTHERS: [&str; 12] = [
+const FOR_OTHERS: [&str; 13] = [
     "",
     "extern \"C\" {",
     "}",
     "#error \"libvespruldo.a is x86-64 code, and this compiler makes other code\"",
     "#error \"libvespruldo.a has System V calls, and Windows has others\"",
+    "#error \"libvespruldo.a is in ELF, which macOS does not link\"",
     "#define VESPRULDO_LOOK_AT_ANSWER",
     "#define VESPRULDO_RESTRICT restrict",
     "#define VESPRULDO_RESTRICT",
