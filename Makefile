@@ -16,7 +16,7 @@ tool = target/office/cards
 completion = target/office/completion
 sources = crates.txt $(shell find crates -type f)
 # What header and README name, in the folders in which they name it.
-pages = README.md LICENSE docs/SECURITY.md docs/READING.md docs/PROMISES.md $(wildcard examples/*.c)
+pages = README.md LICENSE $(wildcard docs/*.md) docs/cards.1 $(wildcard examples/*.c)
 
 all: archive crate
 

@@ -73,7 +73,8 @@ static uint32_t go_on(struct reader *reader)
     return first && second ? VESPRULDO_DONE : next_nonce(reader, thrown_away);
 }
 
-/* Once in the life of a reader number; a page is enough. */
+/* Once in the life of a reader number. Both pages are erased first, so that
+   nobody goes on from an old drawer. */
 static void set_up(uint32_t number)
 {
     vespruldo_stored stored =

@@ -43,10 +43,12 @@ static uint32_t open_card(uint8_t *card, size_t card_len)
                                    VESPRULDO_TAG_BYTES);
 }
 
+/* There is a text only where all was done. */
 static void tell(const char *what, uint32_t number, const uint8_t *text)
 {
-    printf("%s: %s, \"%s\"\n", what, vespruldo_words(number),
-           (const char *)text);
+    printf("%s: %s\n", what,
+           number == VESPRULDO_DONE ? (const char *)text
+                                    : vespruldo_words(number));
 }
 
 int main(void)

@@ -1,8 +1,10 @@
 /* Seals and opens cards over real files, as a model for other programs.
 
+       cc reader.c $(pkg-config --cflags --libs vespruldo) -o reader
        reader seal BOOK CLASS DRAWER TEXT CARD
        reader open BOOK CLASS CARD
 
+   The tool makes BOOK and DRAWER (`cards help book`, `cards help start`).
    TEXT is sealed without associated data; CARD must not be there yet. What is
    opened goes to standard output. The exit status is the number of the refusal,
    or 255 for all else: a command line that is not understood, a drawer that
@@ -60,7 +62,8 @@ static uint32_t read_file(const char *name, uint8_t *bytes, size_t most,
     return number;
 }
 
-/* Makes a new file, and replaces none: it is on the disk, whole, or removed. */
+/* Makes a new file, and replaces none. Unless the run is killed, it is on the
+   disk, whole, or removed. */
 static uint32_t write_new(const char *name, mode_t mode, const uint8_t *bytes,
                           size_t len)
 {
@@ -84,7 +87,9 @@ static int sync_folder(const char *name)
     char *slash = strrchr(folder, '/');
     snprintf(slash == NULL ? folder : slash + 1, 2, ".");
     int file = open(folder, O_RDONLY);
-    int result = file < 0 ? -1 : fsync(file);
+    if (file < 0)
+        return -1;
+    int result = fsync(file);
     close(file);
     return result;
 }
@@ -109,8 +114,8 @@ static uint32_t replace_drawer(const char *drawer, const char *next,
 }
 
 /* Draws a nonce, to be used when the next state has taken this one's place. Of
-   a link, or of one of two names, the other would lead to the old state: such a
-   drawer is refused. */
+   a link, or of one of two names, the other would lead to the old state: from
+   such a drawer nothing is drawn. */
 static uint32_t draw(const char *drawer, const char *next, uint8_t *nonce)
 {
     uint8_t bytes[VESPRULDO_DRAWER_BYTES + 1];
@@ -118,8 +123,10 @@ static uint32_t draw(const char *drawer, const char *next, uint8_t *nonce)
     struct stat status;
     if (lstat(drawer, &status) < 0)
         return failed(drawer);
-    if (!S_ISREG(status.st_mode) || status.st_nlink != 1)
-        return told(VESPRULDO_DRAWER_DAMAGED, drawer);
+    if (!S_ISREG(status.st_mode) || status.st_nlink != 1) {
+        fprintf(stderr, "reader: %s: a link, or no file\n", drawer);
+        return FAILED;
+    }
     uint32_t number = read_file(drawer, bytes, sizeof bytes, &len);
     if (number != VESPRULDO_DONE)
         return number;
@@ -140,8 +147,11 @@ static uint32_t next_nonce(const char *drawer, uint8_t *nonce)
     snprintf(folder, sizeof folder, "%s.next", drawer);
     snprintf(next, sizeof next, "%s/state", folder);
     errno = ENAMETOOLONG;
-    if (strlen(drawer) >= NAME_ROOM || mkdir(folder, 0700) < 0)
+    if (strlen(drawer) >= NAME_ROOM || mkdir(folder, 0700) < 0) {
+        if (errno == EEXIST)
+            fprintf(stderr, "reader: somebody is drawing, or was killed:\n");
         return failed(folder);
+    }
     uint32_t number = draw(drawer, next, nonce);
     if (rmdir(folder) < 0 && number == VESPRULDO_DONE)
         number = failed(folder);
@@ -182,7 +192,10 @@ static uint32_t seal(const uint8_t *key, const char *drawer,
                                  NULL, 0, text, len, card, sizeof card);
     if (number != VESPRULDO_DONE)
         return told(number, text_name);
-    return write_new(card_name, 0666, card, len + VESPRULDO_CARD_EXTRA);
+    number = write_new(card_name, 0666, card, len + VESPRULDO_CARD_EXTRA);
+    if (number == VESPRULDO_DONE && sync_folder(card_name) < 0)
+        number = failed(card_name);
+    return number;
 }
 
 static uint32_t open_card(const uint8_t *key, const char *name)

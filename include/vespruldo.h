@@ -3,19 +3,22 @@
    Link with libvespruldo.a. It is x86-64 code with System V calls, in ELF, for
    Linux and the like, not for Windows, macOS or x32; any x86-64 processor will
    do. It is position-independent and takes nothing but memcpy and memset, from
-   any C library (tried with glibc). It uses SSE2's registers, as all x86-64 code
-   may: where there is no operating system, the program turns them on.
+   any C library (tried with glibc and musl). It uses SSE2's registers, as all
+   x86-64 code may: where there is no operating system, the program turns them
+   on, and interrupts that call it save them.
 
    Buffers. A buffer is a pointer and a length: how many bytes there are at that
    place. A length that a function does not allow is refused, whatever it is. If
    the length is 0, the pointer is not followed and may be NULL. Two buffers of
    one call must not overlap if either is written (the pointers without
-   `const`). Where text and ciphertext are to be one buffer, the functions that
+   `const`): the answer could be DONE, and the bytes wrong. Where text and ciphertext are to be one buffer, the functions that
    end in _in_place seal and open it.
 
    Threads. No function keeps a pointer, holds memory of its own between calls
    or takes any from a heap. Calls may run at the same time as long as none
-   writes to a buffer that another was lent.
+   writes to a buffer that another was lent. To draw from a drawer and to store
+   its next state is one step: threads and interrupts that share a drawer need a
+   lock around it.
 
    Numbers. The answer is VESPRULDO_DONE or the number of the refusal; if
    several apply, the first that the function's comment names. A refusal changes
@@ -180,7 +183,10 @@ uint32_t vespruldo_version(void);
    undefined, the archive is missing or not of this header's interface, and both
    must be taken from one version. Without this the two would link, and fail
    when run. A compiler that knows no attribute `retain` (GCC before 11) loses
-   it under --gc-sections. */
+   it under --gc-sections. A test that has functions of its own in the archive's
+   place defines this one too. Into a shared library the archive is linked with
+   -Wl,--exclude-libs,libvespruldo.a, or its functions could be taken for those
+   of another library's archive. */
 #define VESPRULDO_INTERFACE 1
 uint32_t vespruldo_interface_1(void);
 
@@ -387,7 +393,7 @@ vespruldo_drawn_iv vespruldo_drawer_iv(vespruldo_drawer drawer);
    Where writing can be cut off, a drawer needs two places, as in
    examples/flash.c: after a restart go on from the one with the greater count
    and write to the other first; if only one can be loaded, draw and store once
-   more, and throw that number away.
+   more, and throw that number away. Erase both before a new drawer is written.
 
    They are the drawer file of the office's tool `cards`. Programs that draw from
    one file must take turns, or both draw the same number: while it draws, each
@@ -415,6 +421,16 @@ typedef struct vespruldo_found {
 
 #define VESPRULDO_THIS_TERM 0
 #define VESPRULDO_LAST_TERM 1
+
+/* Does not compile where a `#pragma pack` that was left open, or an option, has
+   packed the structs, which would then lie elsewhere than in the archive. */
+typedef char vespruldo_structs_are_not_packed
+    [sizeof(vespruldo_drawer) == 16 && sizeof(vespruldo_drawn) == 32 &&
+             sizeof(vespruldo_drawn_iv) == 72 &&
+             sizeof(vespruldo_stored) == 44 && sizeof(vespruldo_loaded) == 24 &&
+             sizeof(vespruldo_found) == 16
+         ? 1
+         : -1];
 
 /* Looks up the key of a class in this term's book and, if that has none, in
    last term's. A key book is a count of two bytes, then for each entry a class

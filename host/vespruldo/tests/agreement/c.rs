@@ -57,7 +57,14 @@ impl Header {
         }
     }
 
+    /// A struct, or a test that fails to compile where structs are packed.
     fn typedef(&mut self, tokens: &mut Tokens) {
+        if tokens.take("char") {
+            assert!(self.own.insert(tokens.name()), "a test is there twice");
+            tokens.skip_group();
+            tokens.expect(";");
+            return;
+        }
         tokens.expect("struct");
         let name = tokens.name();
         let mut fields = tokens.group();
