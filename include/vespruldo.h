@@ -404,8 +404,8 @@ vespruldo_stored vespruldo_drawer_store(vespruldo_drawer drawer);
 
    Refusal: DRAWER_DAMAGED (not, to the last byte, what vespruldo_drawer_store
    answers for a drawer). The drawer is then reader 0 with the count 2^64 - 1,
-   which is spent. The count that it had is lost: start another drawer, with a
-   reader number that was never used under the key. */
+   which is spent. If no other place has the drawer, its count is lost: start
+   another, with a reader number that was never used under the key. */
 VESPRULDO_LOOK_AT_ANSWER
 VESPRULDO_READS(1, 2)
 vespruldo_loaded vespruldo_drawer_load(const uint8_t *bytes, size_t bytes_len);

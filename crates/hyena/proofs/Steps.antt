@@ -145,6 +145,7 @@ module _ (E : ℕ → ℕ) (opening inPlace : Bool) (text room₀ : List ℕ) (t
       subst (λ z. Held z room₀ v room′) (iterate-next (λ j w. textBlock E opening 1 w (blockAt s j)) i t refl refl)
       (block-next 16 1 (omega arith) refl held ev er)
 
+  -- the last block; len is the length as the code has it
   pub text-end : (len i : ℕ) {k : ℕ} {u v : StateX} {room room′ : List ℕ} → len ≡ length s → (len ≡ 0 → ⊥)
       → i ≡ (len - 1) / 16 → Held (textAt E opening s t i) room₀ u room
       → k ≡ cond (eqb (len - 16 * ((len - 1) / 16)) 16) 2 3

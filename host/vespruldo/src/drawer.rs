@@ -178,9 +178,9 @@ impl Drawer {
     /// # Errors
     ///
     /// [`Refusal::DrawerDamaged`] if the bytes are not exactly what
-    /// [`to_bytes`](Drawer::to_bytes) answers for some drawer. The count is then
-    /// lost: start another drawer, with a reader number that was never used under
-    /// the key.
+    /// [`to_bytes`](Drawer::to_bytes) answers for some drawer. If no other place
+    /// has the drawer, its count is lost: start another, with a reader number that
+    /// was never used under the key.
     pub fn from_bytes(bytes: &[u8]) -> Result<Drawer, Refusal> {
         // SAFETY: see the crate's root.
         let loaded = unsafe { vespruldo_drawer_load(bytes.as_ptr(), bytes.len()) };
