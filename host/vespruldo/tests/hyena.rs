@@ -5,7 +5,7 @@ mod common;
 use std::collections::BTreeSet;
 
 use common::cards::{Card, Parts};
-use common::pairs::{judged, open, open_short, seal, seal_short};
+use common::pairs::{choices_of_lengths, judged, open, open_short, seal, seal_short};
 use common::{emulated, number, times, up_to, with_flip, LONGEST_DATA, LONGEST_TEXT};
 use second::random::Random;
 
@@ -377,30 +377,18 @@ fn all_lengths_agree_and_nothing_else_changes() {
     }
 }
 
-/// Every choice of lengths that are not allowed, on two sides of what is: the
-/// smallest number is given.
+/// The smallest number is given.
 #[test]
 fn refusals_come_in_the_order_of_the_numbers() {
     let mut random = Random::new(71);
-    let right_lens = [16, 12, 0, 33, 16];
-    let wrong_lens = [
-        [15, 11, LONGEST_DATA + 1, LONGEST_TEXT + 1, 15],
-        [17, 13, LONGEST_DATA + 16, LONGEST_TEXT + 16, 17],
-    ];
-    for choice in 0..1 << 6 {
-        let is_wrong = |number: usize| choice >> (number - 1) & 1 == 1;
-        let smallest = (1..=6).find(|&number| is_wrong(number)).unwrap_or(0);
-        for wrong_lens in wrong_lens {
-            let [key, nonce, data, text, tag] = std::array::from_fn(|n| {
-                let lens = [right_lens, wrong_lens][usize::from(is_wrong(n + 1))];
-                lens[n]
-            });
-            let rooms = [[text, text + 1], [text - 1, 0]][usize::from(is_wrong(6))];
-            for room in rooms {
-                let lens = [key, nonce, data, text, tag, room];
-                assert_eq!(judged(lens) as usize, smallest, "{lens:?}");
-                compare(&mut random, lens);
-            }
+    for ([key, nonce, data, text, tag], smallest) in choices_of_lengths() {
+        // Room that is long enough, and that is not.
+        let rooms = [(text, 0), (text + 1, 0), (text - 1, 6), (0, 6)];
+        for (room, last) in rooms {
+            let lens = [key, nonce, data, text, tag, room];
+            let expected = if smallest == 0 { last } else { smallest };
+            assert_eq!(judged(lens), expected, "{lens:?}");
+            compare(&mut random, lens);
         }
     }
 }

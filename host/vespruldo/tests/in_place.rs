@@ -4,7 +4,7 @@
 mod common;
 
 use common::cards::{Card, Parts};
-use common::pairs::{judged, open_in_place, seal_in_place};
+use common::pairs::{choices_of_lengths, judged, open_in_place, seal_in_place};
 use common::{emulated, times, up_to, with_flip, LONGEST_DATA, LONGEST_TEXT};
 use second::random::Random;
 use vespruldo::{slices, Data, Key, Nonce, Refusal, Tag, UsedNonce};
@@ -180,26 +180,15 @@ fn all_lengths_agree_and_nothing_else_changes() {
     }
 }
 
-/// Every choice of lengths that are not allowed, on two sides of what is.
+/// The smallest number is given.
 #[test]
 fn refusals_come_in_the_order_of_the_numbers() {
     let mut random = Random::new(225);
-    let right_lens = [16, 12, 0, 33, 16];
-    let wrong_lens = [
-        [15, 11, LONGEST_DATA + 1, LONGEST_TEXT + 1, 15],
-        [17, 13, LONGEST_DATA + 16, LONGEST_TEXT + 16, 17],
-    ];
-    for choice in 0..1 << 5 {
-        let is_wrong = |number: usize| choice >> (number - 1) & 1 == 1;
-        let smallest = (1..=5).find(|&number| is_wrong(number)).unwrap_or(0);
-        for wrong_lens in wrong_lens {
-            let lens =
-                std::array::from_fn(|n| [right_lens, wrong_lens][usize::from(is_wrong(n + 1))][n]);
-            let [key, nonce, data, buffer, tag] = lens;
-            let number = judged([key, nonce, data, buffer, tag, buffer]);
-            assert_eq!(number as usize, smallest, "{lens:?}");
-            compare(&mut random, lens);
-        }
+    for (lens, smallest) in choices_of_lengths() {
+        let [key, nonce, data, buffer, tag] = lens;
+        let number = judged([key, nonce, data, buffer, tag, buffer]);
+        assert_eq!(number, smallest, "{lens:?}");
+        compare(&mut random, lens);
     }
 }
 

@@ -27,6 +27,25 @@ fn first_wrong<const N: usize>(wrong: [(u32, bool); N]) -> u32 {
     first.map_or(0, |(number, _)| number)
 }
 
+/// Every choice of lengths of key, nonce, data, text and tag that are not allowed,
+/// on two sides of what is, each with the smallest number that applies, or 0.
+pub fn choices_of_lengths() -> impl Iterator<Item = ([usize; 5], u32)> {
+    let right = [16, 12, 0, 33, 16];
+    let wrong = [
+        [15, 11, LONGEST_DATA + 1, LONGEST_TEXT + 1, 15],
+        [17, 13, LONGEST_DATA + 16, LONGEST_TEXT + 16, 17],
+    ];
+    (0..1 << 5).flat_map(move |choice| {
+        let is_wrong = move |n: usize| choice >> n & 1 == 1;
+        let smallest = (0..5).zip(1..).find(|(n, _)| is_wrong(*n));
+        let smallest = smallest.map_or(0, |(_, number)| number);
+        wrong.map(|wrong| {
+            let lens = std::array::from_fn(|n| if is_wrong(n) { wrong[n] } else { right[n] });
+            (lens, smallest)
+        })
+    })
+}
+
 /// The number for these lengths in opening, where the tag is not the recomputed
 /// one. Of random-looking bytes none ever is.
 fn judged_with_wrong_tag(lens: [usize; 6]) -> u32 {
