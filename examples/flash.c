@@ -8,7 +8,8 @@
 #include <string.h>
 #include <vespruldo.h>
 
-/* ---- The flash memory, of which a write can be cut off after any byte */
+/* ---- The flash memory: a write can be cut off after any byte, and is read
+   back, since a worn page keeps its old bytes */
 
 #define PAGES 2
 
@@ -23,12 +24,12 @@ static bool write_page(int page, const uint8_t *bytes)
         until_cut--;
         pages[page][i] = bytes[i];
     }
-    return true;
+    return memcmp(pages[page], bytes, sizeof pages[page]) == 0;
 }
 
 /* ---- The reader */
 
-#define NO_POWER 255
+#define NOT_WRITTEN 255
 
 /* What it has in memory: the drawer, and the page that is written next. */
 struct reader {
@@ -45,7 +46,7 @@ static uint32_t next_nonce(struct reader *reader, uint8_t *nonce)
         return drawn.number;
     vespruldo_stored stored = vespruldo_drawer_store(drawn.next);
     if (!write_page(reader->page, stored.bytes))
-        return NO_POWER;
+        return NOT_WRITTEN;
     reader->drawer = drawn.next;
     reader->page = 1 - reader->page;
     memcpy(nonce, drawn.bytes, sizeof drawn.bytes);
@@ -88,10 +89,11 @@ static void set_up(uint32_t number)
 #define WRITES 3
 #define MOST (WRITES * VESPRULDO_DRAWER_BYTES)
 
-static bool used[8 * WRITES];
+static bool used[UINT8_MAX + 1];
 static int bad;
 
-/* From a start until the power goes. A nonce's bytes 4 to 11 are its count. */
+/* From a start until the power goes. A nonce's byte 4 is the low one of its
+   count, and all that a trial needs. */
 static uint32_t live(size_t written)
 {
     struct reader reader;
@@ -120,7 +122,7 @@ static void try_it(const size_t cuts[2], const int flipped[2])
         if (flipped[i] < PAGES)
             pages[flipped[i]][20] ^= 1;
     }
-    if (live(MOST) != NO_POWER && flipped[0] == PAGES && flipped[1] == PAGES)
+    if (live(MOST) != NOT_WRITTEN && flipped[0] == PAGES && flipped[1] == PAGES)
         bad = 1;
 }
 
@@ -133,6 +135,7 @@ int main(void)
                 const int flipped[] = {flips / 3, flips % 3};
                 try_it(cuts, flipped);
             }
-    puts(bad ? "a nonce came twice, or a drawer was lost" : "no nonce came twice");
+    puts(bad ? "a nonce came twice, or a drawer was lost"
+             : "no nonce came twice");
     return bad;
 }

@@ -55,7 +55,8 @@ int main(void)
 {
     uint8_t card[sizeof song + VESPRULDO_CARD_EXTRA], chewed[sizeof card];
     uint8_t text[sizeof song];
-    vespruldo_drawn nonce = vespruldo_drawer_draw(vespruldo_drawer_start(42, 0));
+    vespruldo_drawer drawer = vespruldo_drawer_start(42, 0);
+    vespruldo_drawn nonce = vespruldo_drawer_draw(drawer);
     if (nonce.number != VESPRULDO_DONE)
         return (int)nonce.number;
 
@@ -73,7 +74,7 @@ int main(void)
     number = open_card(card, sizeof card);
     tell("opened in place", number, card + TEXT_AT);
 
-    /* What is opened in vain is gone: keep a copy of what may be tried again. */
+    /* What is opened in vain is gone: keep a copy of what is tried again. */
     number = open_card(chewed, sizeof chewed);
     tell("one bit flipped", number, chewed + TEXT_AT);
     return open_card(chewed, sizeof chewed - 1) == VESPRULDO_CUT_SHORT ? 0 : 1;

@@ -94,8 +94,9 @@ static int sync_folder(const char *name)
     return result;
 }
 
-/* Has the drawer's next state in the file's place, with its group and rights:
-   whatever happens, there is either the old one or the new one, whole. */
+/* Has the drawer's next state in the file's place, with its group and rights
+   and, for root, its owner: whatever happens, there is either the old one or
+   the new one, whole. */
 static uint32_t replace_drawer(const char *drawer, const char *next,
                                const struct stat *status,
                                vespruldo_drawer state)
@@ -103,7 +104,8 @@ static uint32_t replace_drawer(const char *drawer, const char *next,
     vespruldo_stored stored = vespruldo_drawer_store(state);
     uint32_t number = write_new(next, 0600, stored.bytes, sizeof stored.bytes);
     if (number == VESPRULDO_DONE &&
-        (chown(next, (uid_t)-1, status->st_gid) < 0 ||
+        ((chown(next, status->st_uid, status->st_gid) < 0 &&
+          chown(next, (uid_t)-1, status->st_gid) < 0) ||
          chmod(next, status->st_mode & 0777) < 0 || rename(next, drawer) < 0)) {
         number = failed(drawer);
         unlink(next);
@@ -193,8 +195,10 @@ static uint32_t seal(const uint8_t *key, const char *drawer,
     if (number != VESPRULDO_DONE)
         return told(number, text_name);
     number = write_new(card_name, 0666, card, len + VESPRULDO_CARD_EXTRA);
-    if (number == VESPRULDO_DONE && sync_folder(card_name) < 0)
+    if (number == VESPRULDO_DONE && sync_folder(card_name) < 0) {
         number = failed(card_name);
+        unlink(card_name);
+    }
     return number;
 }
 

@@ -11,8 +11,9 @@
    place. A length that a function does not allow is refused, whatever it is. If
    the length is 0, the pointer is not followed and may be NULL. Two buffers of
    one call must not overlap if either is written (the pointers without
-   `const`): the answer could be DONE, and the bytes wrong. Where text and ciphertext are to be one buffer, the functions that
-   end in _in_place seal and open it.
+   `const`): the answer could be DONE, and the bytes wrong. Where text and
+   ciphertext are to be one buffer, the functions that end in _in_place seal and
+   open it.
 
    Threads. No function keeps a pointer, holds memory of its own between calls
    or takes any from a heap. Calls may run at the same time as long as none
@@ -26,9 +27,9 @@
    Comments leave out the prefix VESPRULDO_.
 
    What each function of the archive answers and what its buffers then hold is
-   proved for all inputs. docs/READING.md says what is believed and what is only tested,
-   docs/SECURITY.md what is known about timing and about secrets left behind.
-   Installed, these pages and the examples are in share/doc/vespruldo. */
+   proved for all inputs. docs/READING.md says what is believed and what is only
+   tested, docs/SECURITY.md what is known about timing and about secrets left
+   behind. Installed, pages and examples are in share/doc/vespruldo. */
 
 #ifndef VESPRULDO_H
 #define VESPRULDO_H
@@ -129,7 +130,7 @@ static inline const char *vespruldo_words(uint32_t number)
     case VESPRULDO_DRAWER_DAMAGED:
         return "drawer file damaged";
     default:
-        return "not an answer of this version";
+        return "not a number of this library";
     }
 }
 
@@ -182,11 +183,11 @@ uint32_t vespruldo_version(void);
    calls or structs the name has another number: if a linker says that it is
    undefined, the archive is missing or not of this header's interface, and both
    must be taken from one version. Without this the two would link, and fail
-   when run. A compiler that knows no attribute `retain` (GCC before 11) loses
-   it under --gc-sections. A test that has functions of its own in the archive's
-   place defines this one too. Into a shared library the archive is linked with
-   -Wl,--exclude-libs,libvespruldo.a, or its functions could be taken for those
-   of another library's archive. */
+   when run. A compiler that knows no attribute `retain` (GCC before 11, Clang
+   before 13) loses it under --gc-sections. A test that has functions of its own
+   in the archive's place defines this one too. Into a shared library the
+   archive is linked with -Wl,--exclude-libs,libvespruldo.a, or its functions
+   could be taken for those of another library's archive. */
 #define VESPRULDO_INTERFACE 1
 uint32_t vespruldo_interface_1(void);
 
@@ -333,10 +334,10 @@ uint32_t vespruldo_open_in_place(const uint8_t *key, size_t key_len,
 
 /* A drawer: a reader number and a count. Its draws never repeat as long as each
    is taken from the drawer that the last one handed back. So keep the drawer
-   where a restart finds it: after each draw store `next`, and use what was drawn
-   only when that is done. A drawer started again from an older count hands out
-   the same numbers again. Two readers that share a key need different reader
-   numbers.
+   where a restart finds it: after each draw store `next`, and use what was
+   drawn only when that is done. A drawer started again from an older count
+   hands out the same numbers again. Two readers that share a key need different
+   reader numbers.
 
    What is stored is what vespruldo_drawer_store answers, never the bytes of
    this struct: it has padding, which holds whatever was in memory. */
@@ -391,13 +392,14 @@ vespruldo_drawn_iv vespruldo_drawer_iv(vespruldo_drawer drawer);
    little-endian, and the BLAKE2b digest of these 12 in 32, without a key.
 
    Where writing can be cut off, a drawer needs two places, as in
-   examples/flash.c: after a restart go on from the one with the greater count
-   and write to the other first; if only one can be loaded, draw and store once
-   more, and throw that number away. Erase both before a new drawer is written.
+   examples/flash.c: write to the two in turn, and read back what was written;
+   after a restart go on from the one with the greater count, and write to the
+   other first; if only one can be loaded, draw and store once more, and throw
+   that number away. Erase both before a new drawer is written.
 
-   They are the drawer file of the office's tool `cards`. Programs that draw from
-   one file must take turns, or both draw the same number: while it draws, each
-   keeps a folder FILE.next, as examples/reader.c does. */
+   The bytes are the drawer file of the office's tool `cards`. Programs that
+   draw from one file must take turns, or both draw the same number: while it
+   draws, each keeps a folder FILE.next, as examples/reader.c does. */
 vespruldo_stored vespruldo_drawer_store(vespruldo_drawer drawer);
 
 /* The drawer that was stored in these bytes.

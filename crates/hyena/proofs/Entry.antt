@@ -89,14 +89,13 @@ allowed i tag room (key, (nonce, («data», (text, (tag′, (room′, none))))))
 
 -- ---- the lengths as the code judges them: n, of what it works on, and r, the number that they call for
 
-module _ (i : Inputs) (tag room : List ℕ) {n r : ℕ} (en : n ≡ length (i .text))
-    (er : r ≡ numberOf
-    (rows (length (i .key)) (length (i .nonce)) (length (i .«data»)) n (length tag) (length room))) where
+abbrev weighed : Inputs → List ℕ → List ℕ → ℕ → ℕ
+weighed i tag room n =
+    numberOf (rows (length (i .key)) (length (i .nonce)) (length (i .«data»)) n (length tag) (length room))
+
+module _ (i : Inputs) (tag room : List ℕ) {n r : ℕ} (en : n ≡ length (i .text)) (er : r ≡ weighed i tag room n) where
   judged : r ≡ numberOf (refusals i tag room)
-  judged =
-      er
-      ∙ ap (λ (k : ℕ). numberOf
-      (rows (length (i .key)) (length (i .nonce)) (length (i .«data»)) k (length tag) (length room))) en
+  judged = er ∙ ap (weighed i tag room) en
 
   pub not-refused : r ≡ 0 → Allowed i tag room
   not-refused e = allowed i tag room (judged-clear (refusals i tag room) judged tt e)

@@ -100,7 +100,7 @@ behind-output : (inPlace : Bool) (text room₀ out : List ℕ) (at n : ℕ) {roo
 behind-output true text room₀ out at n e h = ap (take n) (ap (drop at) e ∙ drop-sets room₀ 0 out at (omega arith))
 behind-output false text room₀ out at n e h = refl
 
--- a block d at the end of the output
+-- a block d that comes behind the output is held with it
 block-held : (E : ℕ → ℕ) (opening : Bool) (room₀ : List ℕ) (t : mode.StateX) (k at : ℕ) (d : List ℕ) {u v : StateX}
     {room room′ : List ℕ} → length (t .out) ≡ at → Held t room₀ u room
     → v ≡ heldX (textBlock E opening k (readX u) d) → room′ ≡ sets room at (output d (E (value (u .x))))
@@ -122,7 +122,7 @@ module _ (E : ℕ → ℕ) (opening inPlace : Bool) (text room₀ : List ℕ) (t
   abbrev s : List ℕ
   s = source inPlace text room₀
 
-  -- so the block that is read next, of n bytes from at on, is the text's
+  -- the block that is read next, of n bytes from at on, lies behind the output, and so is the text's
   block-next : (n k : ℕ) {i at : ℕ} {u v : StateX} {room room′ : List ℕ} → i ≤ before s → at ≡ 16 * i
       → Held (textAt E opening s t i) room₀ u room
       → v ≡ heldX (textBlock E opening k (readX u) (part (source inPlace text room) at n))

@@ -30,7 +30,8 @@ fn main() -> Result<(), Refusal> {
     let (nonce, tag) = seal_in_place(&key, draw_stored(&mut flash)?, LABEL, &mut verse)?;
     println!("sealed under nonce {nonce}: tag {tag}");
 
-    // The power may go at any time: the next nonce is another one.
+    // After a restart the next nonce is another one. (Where the power may go while
+    // a drawer is written, it needs two places: see `Drawer::to_bytes`.)
     let mut chorus = *b"Quack, quack, quack";
     let (next, next_tag) = seal_in_place(&key, draw_stored(&mut flash)?, LABEL, &mut chorus)?;
     assert_ne!(nonce, next);

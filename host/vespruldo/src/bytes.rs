@@ -86,6 +86,7 @@ macro_rules! secret {
         impl $name {
             /// Takes bytes that lie elsewhere for a key, in place: they are
             /// neither copied nor wiped.
+            #[must_use = "the bytes are only lent"]
             pub fn from_ref(bytes: &[u8; $len]) -> &$name {
                 // SAFETY: the type holds these bytes alone and has their layout.
                 // What is answered is lent for as long as they are, and what is
@@ -231,9 +232,9 @@ used_once! {
     /// # Ok::<(), vespruldo::Refusal>(())
     /// ```
     ///
-    /// So does [`seal_in_place`](crate::seal_in_place), and so does
-    /// [`chacha20`](crate::chacha20). What they hand back is a [`UsedNonce`],
-    /// which seals nothing:
+    /// So do [`seal_in_place`](crate::seal_in_place),
+    /// [`card_seal`](crate::card_seal) and [`chacha20`](crate::chacha20). What
+    /// comes back is a [`UsedNonce`], which seals nothing:
     ///
     /// ```compile_fail,E0308
     /// # use vespruldo::{seal, Data, Drawer, Key};

@@ -142,11 +142,12 @@ impl Drawer {
     /// older ones, as those of a backup are.
     ///
     /// Where writing can be cut off, a drawer needs two places, as in
-    /// `examples/flash.c` of the repository: after a restart go on from the one
-    /// with the greater count and write to the other first; if only one can be
-    /// loaded, draw and store once more, and throw that number away. In a file
-    /// system, write a new file in the same folder, sync it, rename it over the
-    /// old one, and sync the folder.
+    /// `examples/flash.c` of the repository: write to the two in turn, and read
+    /// back what was written; after a restart go on from the one with the greater
+    /// count, and write to the other first; if only one can be loaded, draw and
+    /// store once more, and throw that number away. Erase both before a new drawer
+    /// is written. In a file system, write a new file in the same folder, sync it,
+    /// rename it over the old one, and sync the folder.
     ///
     /// Programs that draw from one file must take turns, or both draw the same
     /// number. While the tool `cards` draws, there is a folder `FILE.next`:

@@ -51,10 +51,11 @@
 //! - The text, which is hidden, cannot stand where [`Data`] must, which is not.
 //! - A fresh number and a used one are different types. A [`Nonce`] and an [`Iv`]
 //!   cannot be copied, and [`seal`], [`seal_short`], [`seal_in_place`],
-//!   [`chacha20`] and [`lioness_encipher`] take theirs for good: none is used
-//!   twice by a slip. What comes back is a [`UsedNonce`] or a [`UsedIv`], which
-//!   seals and enciphers nothing; only [`chacha20_again`] goes on with a key
-//!   stream under one, and must be told where.
+//!   [`card_seal`], [`chacha20`] and [`lioness_encipher`] take theirs for good:
+//!   none is used twice by a slip. What comes back, or is read from a card, is a
+//!   [`UsedNonce`] or a [`UsedIv`], which seals and enciphers nothing; only
+//!   [`chacha20_again`] goes on with a key stream under one, and must be told
+//!   where.
 //! - A [`Drawer`] cannot be copied: a copy would hand out the same numbers.
 //! - A [`Key`], [`StreamKey`] or [`WideKey`] has no `==`, is shown without its
 //!   bytes, and is wiped when dropped.
@@ -127,7 +128,8 @@ pub use slices::{blake2b, same};
 
 /// The build script looks at the archive in one place; a linker may be told of
 /// others. So each program refers to the function whose name has the interface's
-/// number, as the C header has it.
+/// number, as the C header has it. (Compilers before Rust 1.89 may leave this
+/// out; then `result_of` refers to it.)
 #[used]
 static ASKS_FOR: unsafe extern "C" fn() -> u32 = archive::vespruldo_interface_1;
 

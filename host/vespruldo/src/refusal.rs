@@ -4,6 +4,8 @@
 use core::error::Error;
 use core::fmt;
 
+use crate::archive::vespruldo_interface_1;
+
 /// The refusals, each by its name, its number and its words.
 macro_rules! refusals {
     ($($name:ident = $number:literal, $words:literal;)+) => {
@@ -87,7 +89,7 @@ impl Error for Refusal {}
 /// assert_eq!(Refusal::try_from(status as u32), Ok(Refusal::WrongTag));
 ///
 /// let why = Refusal::try_from(13).unwrap_err();
-/// assert_eq!(why.to_string(), "13 is not an answer of this version");
+/// assert_eq!(why.to_string(), "13 is not a number of this library");
 /// let why = Refusal::try_from(0).unwrap_err();
 /// assert_eq!(why.to_string(), "0 is no refusal: it says that all was done");
 /// ```
@@ -120,7 +122,7 @@ impl fmt::Display for NotARefusal {
     fn fmt(&self, f: &mut fmt::Formatter<'_>) -> fmt::Result {
         match self.0 {
             0 => f.write_str("0 is no refusal: it says that all was done"),
-            number => write!(f, "{number} is not an answer of this version"),
+            number => write!(f, "{number} is not a number of this library"),
         }
     }
 }
@@ -140,7 +142,15 @@ pub(crate) fn result_of(number: u32, promised: &[Refusal]) -> Result<(), Refusal
     }
     match promised.iter().find(|refusal| refusal.number() == number) {
         Some(refusal) => Err(*refusal),
-        None => panic!("the archive answered {number}, a number that it does not promise"),
+        None => {
+            // SAFETY: it takes nothing. That it is called here also keeps archives
+            // of other interfaces from linking, where ASKS_FOR is left out.
+            let interface = unsafe { vespruldo_interface_1() };
+            panic!(
+                "the archive answered {number}, a number that interface {interface} \
+                 does not promise"
+            )
+        }
     }
 }
 
