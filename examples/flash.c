@@ -15,6 +15,7 @@
 
 static uint8_t pages[PAGES][VESPRULDO_DRAWER_BYTES];
 static size_t until_cut; /* the bytes that are written before the power goes */
+static int worn;         /* the page that is, or PAGES for none */
 
 static bool write_page(int page, const uint8_t *bytes)
 {
@@ -22,7 +23,8 @@ static bool write_page(int page, const uint8_t *bytes)
         if (until_cut == 0)
             return false;
         until_cut--;
-        pages[page][i] = bytes[i];
+        if (page != worn)
+            pages[page][i] = bytes[i];
     }
     return memcmp(pages[page], bytes, sizeof pages[page]) == 0;
 }
@@ -110,15 +112,17 @@ static uint32_t live(size_t written)
     return number;
 }
 
-/* Three lives, and after each of the first two a bit is flipped in a page, or
-   (with PAGES for a page) in none. A drawer may be lost, but not by cuts
-   alone. */
-static void try_it(const size_t cuts[2], const int flipped[2])
+/* Three lives. After each of the first two a bit is flipped in a page, or (with
+   PAGES for a page) in none; after the first a page is worn, or none. A drawer
+   may be lost, but not by cuts alone. */
+static void try_it(const size_t cuts[2], const int flipped[2], int worn_then)
 {
     set_up(42);
     memset(used, 0, sizeof used);
+    worn = PAGES;
     for (int i = 0; i < 2; i++) {
         live(cuts[i]);
+        worn = worn_then;
         if (flipped[i] < PAGES)
             pages[flipped[i]][20] ^= 1;
     }
@@ -130,10 +134,10 @@ int main(void)
 {
     for (size_t cut = 0; cut <= MOST; cut++)
         for (size_t later = cut % 11; later <= MOST; later += 11)
-            for (int flips = 0; flips < 9; flips++) {
+            for (int kind = 0; kind < 27; kind++) {
                 const size_t cuts[] = {cut, later};
-                const int flipped[] = {flips / 3, flips % 3};
-                try_it(cuts, flipped);
+                const int flipped[] = {kind / 3 % 3, kind % 3};
+                try_it(cuts, flipped, kind / 9);
             }
     puts(bad ? "a nonce came twice, or a drawer was lost"
              : "no nonce came twice");
