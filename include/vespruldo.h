@@ -54,8 +54,8 @@ extern "C" {
 
 /* The version of this header: 10000 * major + 100 * minor + patch, and as a
    text. vespruldo_version answers the archive's. */
-#define VESPRULDO_VERSION 200
-#define VESPRULDO_VERSION_TEXT "0.2.0"
+#define VESPRULDO_VERSION 300
+#define VESPRULDO_VERSION_TEXT "0.3.0"
 
 /* Lengths in bytes: _BYTES is the only one allowed, _MIN and _MAX are the least
    and the greatest, _EXTRA is what a card has besides its ciphertext. */
@@ -65,6 +65,7 @@ extern "C" {
 #define VESPRULDO_CARD_EXTRA 30
 #define VESPRULDO_CARD_TEXT_MAX 65535
 #define VESPRULDO_DRAWER_BYTES 44    /* a drawer that is stored */
+#define VESPRULDO_PACK_MAX 16893     /* a lesson pack that is not refused */
 #define VESPRULDO_DATA_MAX 65536     /* associated data */
 #define VESPRULDO_TEXT_MAX 1048576   /* HyENA, ChaCha20, BLAKE2b; ciphertext */
 #define VESPRULDO_GIFT_BLOCK_BYTES 16
@@ -92,6 +93,8 @@ extern "C" {
 #define VESPRULDO_BOOK_FORM 10
 #define VESPRULDO_CLASS_MISSING 11
 #define VESPRULDO_CUT_SHORT 12
+#define VESPRULDO_COUNT_OR_LENGTH 13
+#define VESPRULDO_BAD_SHUFFLE 14
 #define VESPRULDO_LEFT_OVER 15
 #define VESPRULDO_DRAWER_DAMAGED 106
 
@@ -125,6 +128,10 @@ static inline const char *vespruldo_words(uint32_t number)
         return "neither book has an entry for the class";
     case VESPRULDO_CUT_SHORT:
         return "cut short";
+    case VESPRULDO_COUNT_OR_LENGTH:
+        return "count or length not allowed";
+    case VESPRULDO_BAD_SHUFFLE:
+        return "bad shuffle";
     case VESPRULDO_LEFT_OVER:
         return "bytes left over";
     case VESPRULDO_DRAWER_DAMAGED:
@@ -424,13 +431,37 @@ typedef struct vespruldo_found {
 #define VESPRULDO_THIS_TERM 0
 #define VESPRULDO_LAST_TERM 1
 
+/* What a reader of a lesson pack answers: a card, done, or a refusal. */
+typedef struct {
+    uint32_t number; /* VESPRULDO_DONE or the refusal */
+    uint32_t kind;   /* VESPRULDO_NO_CARD if there is no card any more */
+    size_t start;    /* of a card: where in the pack its bytes start */
+    size_t length;   /* and how many they are, at least 1 */
+    size_t bad;      /* of BAD_SHUFFLE: the place of the first bad entry */
+    size_t next;     /* the place to ask for next */
+} vespruldo_pack_card;
+
+#define VESPRULDO_NO_CARD 0
+#define VESPRULDO_WORD 1
+#define VESPRULDO_SONG 2
+#define VESPRULDO_SHUFFLE 3
+
+/* What a lesson pack is as a whole. */
+typedef struct {
+    uint32_t number; /* VESPRULDO_DONE or the refusal */
+    size_t cards;    /* how many cards are given, all or those before it */
+    size_t bad;      /* of BAD_SHUFFLE: the place of the first bad entry */
+} vespruldo_pack_judged;
+
 /* Does not compile where a `#pragma pack` that was left open, or an option, has
    packed the structs, which would then lie elsewhere than in the archive. */
 typedef char vespruldo_structs_are_not_packed
     [sizeof(vespruldo_drawer) == 16 && sizeof(vespruldo_drawn) == 32 &&
              sizeof(vespruldo_drawn_iv) == 72 &&
              sizeof(vespruldo_stored) == 44 && sizeof(vespruldo_loaded) == 24 &&
-             sizeof(vespruldo_found) == 16
+             sizeof(vespruldo_found) == 16 &&
+             sizeof(vespruldo_pack_card) == 40 &&
+             sizeof(vespruldo_pack_judged) == 24
          ? 1
          : -1];
 
@@ -465,6 +496,48 @@ static inline const uint8_t *vespruldo_found_key(vespruldo_found found,
     return (found.book == VESPRULDO_THIS_TERM ? this_term : last_term) +
            found.offset;
 }
+
+/* ---- Lesson packs ---- */
+
+/* A lesson pack has words, perhaps a song, and a shuffle. A byte counts the
+   words, 1 to 12; each is a length byte, 1 to 40, and its bytes. A byte counts
+   the songs, 0 or 1; a song is a length of two bytes (little-endian), 1 to
+   16,384, and its bytes. A byte counts the shuffle's entries, as many as words;
+   each is a byte, and every word's place, from 0, is there once. */
+
+/* The next card. A reader holds a pack and its place, how many cards have been
+   given: it starts at 0 and goes on at `next`.
+
+       vespruldo_pack_card card = vespruldo_pack_next(pack, pack_len, 0);
+       while (card.kind != VESPRULDO_NO_CARD) {
+           play(card.kind, pack + card.start, card.length);
+           card = vespruldo_pack_next(pack, pack_len, card.next);
+       }
+       if (card.number != VESPRULDO_DONE) { ... }
+
+   The cards are each word, the song if there is one, and the shuffle as one, in
+   this order; then comes NO_CARD with DONE, or with a refusal. Both leave the
+   place where it is and are given again, so a walk ends within fifteen calls,
+   whatever the bytes are. Every place has its answer. The bytes of a card lie
+   within the pack. A card is given before what stands behind it has been looked
+   at: whoever wants to play a whole pack or nothing judges it first.
+
+   Refusals: the first met from the left of CUT_SHORT (a count, or a length or
+   the shuffle's count with the bytes that it counts, is not wholly there),
+   COUNT_OR_LENGTH (it is, and is not allowed), BAD_SHUFFLE (an entry repeats an
+   earlier one or is too large) and LEFT_OVER (bytes behind the shuffle). What
+   does not apply to an answer is 0. */
+VESPRULDO_LOOK_AT_ANSWER
+VESPRULDO_READS(1, 2)
+vespruldo_pack_card vespruldo_pack_next(const uint8_t *pack, size_t pack_len,
+                                        size_t place);
+
+/* Walks a whole pack: the number that the walk ends with, and how many cards
+   come before that. Refusals: as for vespruldo_pack_next. */
+VESPRULDO_LOOK_AT_ANSWER
+VESPRULDO_READS(1, 2)
+vespruldo_pack_judged vespruldo_pack_judge(const uint8_t *pack,
+                                           size_t pack_len);
 
 /* ---- Wide blocks: LIONESS over BLAKE2b and ChaCha20 ---- */
 

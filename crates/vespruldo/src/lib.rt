@@ -6,6 +6,8 @@ use drawer::Drawn;
 use drawer::DrawnIv;
 use drawer_file::Loaded;
 use drawer_file::Stored;
+use pack::Judged;
+use pack::Told;
 ghost use mathlib.Core.Path.{_≡_};
 ghost use Rattle.words.specs.Search.{same};
 ghost use Rattle.gift.specs.Entry as gift;
@@ -17,6 +19,7 @@ ghost use Rattle.drawer.specs.Drawer.{forNonce, forIv, started, Drawing};
 ghost use Rattle.books.specs.Entry as books;
 ghost use Rattle.sealed_card.specs.SealedCard as sealedCard;
 ghost use Rattle.drawer_file.specs.DrawerFile.{storing, Loading};
+ghost use Rattle.pack.specs.Reader.{readAt, told, judged};
 
 #[no_mangle]
 pub extern "C" fn vespruldo_gift_encipher(key: &[u8], block: &mut [u8]) -> u32
@@ -218,18 +221,32 @@ pub extern "C" fn vespruldo_key_find(this_term: &[u8], last_term: &[u8], class: 
 }
 
 #[no_mangle]
+pub extern "C" fn vespruldo_pack_next(pack: &[u8], place: usize) -> Told
+    ensures { λ r. ⌜ r ≡ told (readAt (now (pack .entry)) place) ⌝ }
+{
+    pack::told_at(pack, place)
+}
+
+#[no_mangle]
+pub extern "C" fn vespruldo_pack_judge(pack: &[u8]) -> Judged
+    ensures { λ r. ⌜ r ≡ judged (now (pack .entry)) ⌝ }
+{
+    pack::judge(pack)
+}
+
+#[no_mangle]
 pub extern "C" fn vespruldo_same(a: &[u8], b: &[u8]) -> bool
     ensures { λ r. ⌜ r ≡ same (now (a .entry)) (now (b .entry)) ⌝ }
 {
     words::same(a, b)
 }
 
-// The version 0.2.0, as 10000 times the first number, 100 times the second and the third.
+// The version 0.3.0, as 10000 times the first number, 100 times the second and the third.
 #[no_mangle]
 pub extern "C" fn vespruldo_version() -> u32
-    ensures { λ r. ⌜ r ≡ 200 ⌝ }
+    ensures { λ r. ⌜ r ≡ 300 ⌝ }
 {
-    200
+    300
 }
 
 // What the header has every caller refer to: the number in the name goes up when a signature or a struct of an older

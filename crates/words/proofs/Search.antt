@@ -1,8 +1,8 @@
 -- The loops that compare two lists, and that look for a number in one.
 use mathlib.Core.Path.{_≡_, refl, sym, ap, ap₂, _∙_}
-use mathlib.Core.Bool.{Bool, true, false, _&&_, true≢false, and-eq-true-iff, and-true, and-false, and-assoc}
+use mathlib.Core.Bool.{Bool, true, false, cond, _&&_, true≢false, and-eq-true-iff, and-true, and-false, and-assoc}
 use mathlib.Core.List.{List, [], _∷_}
-use Prim.Native.Nat.{ℕ, suc, _+_, _≤_, _<_, min}
+use Prim.Native.Nat.{ℕ, zero, suc, _+_, _≤_, _<_, min}
 use native.Mathlib.Decide.{decLe, ℕ-discrete}
 use native.Mathlib.Numerals.{add-one}
 use native.Mathlib.Omega.{arith}
@@ -13,6 +13,7 @@ use lib.Seq.{drop-cons}
 use borrow.Author.Tests.{eqb-true, eq-eqb, ne-eqb}
 use Rattle.words.specs.Search.{same, placeOf, finding}
 use Rattle.words.proofs.ExclusiveOr.{xor-zero, or-zero}
+use Rattle.words.proofs.Tests.{cond-has}
 
 -- ---- whether two lists are the same
 
@@ -87,3 +88,25 @@ module _ (s : List ℕ) (c i to : ℕ) {p : ℕ} (inv : finding s i to c ≡ p) 
   ended h =
       let e : length s ≤ i → placeOf c (drop i s) ≡ 0 = λ l. rw (drop-of-length-le s {i = i} l) in
       elim (decLe to i) [ yes k ↦ omega (arith, inv) | no k ↦ omega (arith, inv, e (omega arith)) ]
+
+-- it stands at no later place than where it is seen
+pub place-least : (c : ℕ) (s : List ℕ) (j : ℕ) → j < length s → getD s j 0 ≡ c → placeOf c s ≤ j
+unfolding placeOf
+place-least c [] j l e = absurd (omega arith)
+place-least c (a ∷ s) zero l e = rw (eq-eqb a c e) (omega arith)
+place-least c (a ∷ s) (suc j) l e =
+    let h : placeOf c s ≤ j = place-least c s j (omega arith) e in
+    cond-has (λ (n : ℕ). n ≤ suc j) (eqb a c) (omega arith) (omega arith)
+
+-- and at a later one than where others are seen
+pub place-more : (c : ℕ) (s : List ℕ) (j : ℕ) → j < length s → (getD s j 0 ≡ c → ⊥) → j ≤ placeOf c s
+    → j + 1 ≤ placeOf c s
+unfolding placeOf
+place-more c [] j l n h = absurd (omega arith)
+place-more c (a ∷ s) zero l n h = rw (ne-eqb a c n) (omega arith)
+place-more c (a ∷ s) (suc j) l n h = by (eqb a c) h (place-more c s j (omega arith) n)
+  where
+    by : (t : Bool) → suc j ≤ cond t 0 (suc (placeOf c s)) → (j ≤ placeOf c s → j + 1 ≤ placeOf c s)
+        → suc j + 1 ≤ cond t 0 (suc (placeOf c s))
+    by true h more = absurd (omega arith)
+    by false h more = let k : j + 1 ≤ placeOf c s = more (omega arith) in omega arith

@@ -1,0 +1,54 @@
+-- What K1 asks of every pack, whatever its bytes.
+use mathlib.Core.Path.{_≡_}
+use Prim.Native.Nat.{ℕ, _+_, _<_, _≤_}
+use mathlib.Core.Bool.{true, false}
+use mathlib.Core.List.{List, [], _∷_, _++_}
+use lib.ListN.{length as List·length}
+use Rattle.words.specs.Block.{part}
+use Rattle.words.specs.Bytes.{bytes}
+use Rattle.pack.specs.Pack.{reading, cardAt}
+use Rattle.pack.specs.Reader.{toldOf, isCard, readAt}
+use Rattle.pack.specs.declared.Card.{Card}
+use Rattle.pack.specs.declared.Card.the-variants.{Done}
+
+-- where a card's bytes start and end
+abbrev pub startOf : Card → ℕ
+startOf c = toldOf c 0 .start
+
+abbrev pub endOf : Card → ℕ
+endOf c = startOf c + toldOf c 0 .length
+
+-- the items of some cards, one behind the other: a length, in so many bytes, and the card's own bytes
+abbrev pub items : List ℕ → ℕ → List Card → List ℕ
+items s width [] = []
+items s width (c ∷ cs) =
+    bytes width (toldOf c 0 .length) ++ (part s (startOf c) (toldOf c 0 .length) ++ items s width cs)
+
+-- are all of a kind
+abbrev pub AllOf : ℕ → List Card → Type 0
+AllOf kind [] = Unit {0}
+AllOf kind (c ∷ cs) = (toldOf c 0 .kind ≡ kind) × AllOf kind cs
+
+-- a pack that is accepted: its words, its songs and its shuffle; what is between them is their counts and lengths
+pub record Whole (s : List ℕ) : Type 0 where
+  pub words : List Card
+  pub songs : List Card
+  pub shuffle : Card
+  pub kinds : AllOf 1 words × AllOf 2 songs × (toldOf shuffle 0 .kind ≡ 3)
+  pub cards : reading s .cards ≡ words ++ (songs ++ (shuffle ∷ []))
+  pub is : s ≡ bytes 1 (List·length words) ++ (items s 1 words
+      ++ (bytes 1 (List·length songs) ++ (items s 2 songs ++ items s 1 (shuffle ∷ []))))
+
+pub record Demands (s : List ℕ) : Type 0 where
+  -- "A refusal keeps the reader's place and is given again", and so is done
+  pub given-again : (place : ℕ) → isCard (cardAt s place) ≡ false
+      → (readAt s place .next ≡ place) × ((more : ℕ) → cardAt s (place + more) ≡ cardAt s place)
+  -- cards lie within the pack, have bytes, and each lies behind those before it
+  pub within : (place : ℕ) → isCard (cardAt s place) ≡ true
+      → (startOf (cardAt s place) < endOf (cardAt s place)) × (endOf (cardAt s place) ≤ List·length s)
+  pub behind : (i j : ℕ) → i < j → isCard (cardAt s j) ≡ true
+      → endOf (cardAt s i) ≤ startOf (cardAt s j)
+  -- a walk ends within fifteen calls
+  pub fifteen : (place : ℕ) → 14 ≤ place → isCard (cardAt s place) ≡ false
+  -- "the concatenation of its items"
+  pub whole : reading s .ending ≡ Done → Whole s

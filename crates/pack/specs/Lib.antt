@@ -1,0 +1,4 @@
+pub mod Pack
+pub mod Reader
+pub mod Demands
+pub mod Stretch

@@ -1,0 +1,186 @@
+// Lesson packs: what a reader answers at each place of any bytes, as K1 of document 02 fixes it.
+ghost use mathlib.Core.Path.{_≡_};
+ghost use Rattle.pack.specs.Pack.{cardAt, ends};
+ghost use Rattle.pack.specs.Stretch.{settled};
+ghost use Rattle.pack.specs.declared.Card.the-variants.{Done};
+ghost use Rattle.pack.specs.Reader.{readAt, told, toldOf, judged, readerOf, Moves};
+use items::Found;
+use items::counted;
+use items::shuffle;
+
+mod items; // items.rt: the items of a pack, from the front
+
+// What a reader answers: a card with the start and the length of its bytes, done, or a refusal; a bad shuffle has the
+// place of the entry at which it is bad.
+pub enum Card {
+    Word { start: usize, length: usize },
+    Song { start: usize, length: usize },
+    Shuffle { start: usize, length: usize },
+    Done,
+    Refused(u32),
+    BadShuffle(usize),
+}
+
+// An answer, and the reader's place after it.
+pub struct Read {
+    pub card: Card,
+    pub next: usize,
+}
+
+// A reader: a pack and its place in it, the number of cards given.
+pub struct Reader<'a> {
+    pub pack: &'a [u8],
+    pub place: usize,
+}
+
+// An answer as C has it: 0 or the refusal; 1 for a word, 2 for a song, 3 for a shuffle, 0 for no card; the start and
+// the length of its bytes; the place of the entry at which a shuffle is bad; the reader's place after it.
+#[repr(C)]
+pub struct Told {
+    pub number: u32,
+    pub kind: u32,
+    pub start: usize,
+    pub length: usize,
+    pub bad: usize,
+    pub next: usize,
+}
+
+// What a pack is as a whole: 0 or the refusal; how many cards are given before that; the place of the entry at which
+// the shuffle is bad.
+#[repr(C)]
+pub struct Judged {
+    pub number: u32,
+    pub cards: usize,
+    pub bad: usize,
+}
+
+// The reader of a pack, at its first card.
+pub fn reader_of<'a>(pack: &'a [u8]) -> Reader<'a>
+    ensures { λ r. ⌜ r ≡ readerOf (pack .entry) ⌝ }
+{
+    Reader { pack, place: 0 }
+}
+
+// The next card, which moves the reader on, or what ends the walk, which does not.
+pub fn next<'s, 'a>(reader: &'s mut Reader<'a>) -> Card
+    ensures { λ r. ⌜ Moves r (now (reader .entry)) (now (reader .exit)) ⌝ }
+{
+    let read = read_at(reader.pack, reader.place);
+    reader.place = read.next;
+    read.card
+}
+
+// What a reader of the pack answers at a place, and its place after that.
+pub fn read_at(pack: &[u8], place: usize) -> Read
+    ensures { λ r. ⌜ r ≡ readAt (now (pack .entry)) place ⌝ }
+{
+    let card = card_at(pack, place);
+    let (Card::Word { .. } | Card::Song { .. } | Card::Shuffle { .. }) = card else {
+        return Read {
+            card: card,
+            next: place,
+        };
+    };
+    Read {
+        card: card,
+        next: place + 1,
+    }
+}
+
+// The same as C has it.
+pub fn told_at(pack: &[u8], place: usize) -> Told
+    ensures { λ r. ⌜ r ≡ told (readAt (now (pack .entry)) place) ⌝ }
+{
+    let read = read_at(pack, place);
+    let card = read.card;
+    told_of(card, read.next)
+}
+
+// Walks the whole pack.
+pub fn judge(pack: &[u8]) -> Judged
+    ensures { λ r. ⌜ r ≡ judged (now (pack .entry)) ⌝ }
+{
+    let mut place = 0;
+    loop {
+        let card = card_at(pack, place);
+        let (Card::Word { .. } | Card::Song { .. } | Card::Shuffle { .. }) = card else {
+            let told = told_of(card, place);
+            return Judged {
+                number: told.number,
+                cards: place,
+                bad: told.bad,
+            };
+        };
+        place += 1;
+    }
+}
+
+// What a reader of the pack answers at a place.
+pub fn card_at(pack: &[u8], place: usize) -> Card
+    ensures { λ r. ⌜ r ≡ cardAt (now (pack .entry)) place ⌝ }
+{
+    let words = counted(pack, items::words(), 0, place);
+    let Found::On { count, at, place } = words else {
+        return answer(words);
+    };
+    let songs = counted(pack, items::songs(), at, place);
+    let Found::On {
+        count: _,
+        at,
+        place,
+    } = songs
+    else {
+        return answer(songs);
+    };
+    shuffle(pack, count, at, place)
+}
+
+// The answer that a stretch found.
+fn answer(found: Found) -> Card
+    ensures { λ r. ⌜ r ≡ settled found (λ _ _. ends Done) ⌝ }
+{
+    match found {
+        Found::Answer(card) => card,
+        Found::On { .. } => Card::Done,
+    }
+}
+
+// The document's number and values for each case.
+fn told_of(card: Card, next: usize) -> Told
+    ensures { λ r. ⌜ r ≡ toldOf card next ⌝ }
+{
+    match card {
+        Card::Word { start, length } => given(1, start, length, next),
+        Card::Song { start, length } => given(2, start, length, next),
+        Card::Shuffle { start, length } => given(3, start, length, next),
+        Card::Done => ended(0, 0, next),
+        Card::Refused(number) => ended(number, 0, next),
+        Card::BadShuffle(bad) => ended(14, bad, next),
+    }
+}
+
+fn given(kind: u32, start: usize, length: usize, next: usize) -> Told
+    ensures { λ r. ⌜ r ≡ record { number = 0; kind = kind; start = start; length = length; bad = 0; next = next } ⌝ }
+{
+    Told {
+        number: 0,
+        kind: kind,
+        start: start,
+        length: length,
+        bad: 0,
+        next: next,
+    }
+}
+
+fn ended(number: u32, bad: usize, next: usize) -> Told
+    ensures { λ r. ⌜ r ≡ record { number = number; kind = 0; start = 0; length = 0; bad = bad; next = next } ⌝ }
+{
+    Told {
+        number: number,
+        kind: 0,
+        start: 0,
+        length: 0,
+        bad: bad,
+        next: next,
+    }
+}
