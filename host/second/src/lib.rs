@@ -1,6 +1,6 @@
-//! A second implementation of what document 01 asks for, and of what is proved
-//! of the tool `cards`, written from the documents, the tool's man page
-//! (docs/cards.1) and the RFCs alone.
+//! A second implementation of what document 01 asks for, of document 02's lesson
+//! packs (K1) and of what is proved of the tool `cards`, written from the
+//! documents, the tool's man page (docs/cards.1) and the RFCs alone.
 //!
 //! It exists to be compared with the archive `libvespruldo.a` and with the tool,
 //! so it links neither and takes the plainest road everywhere: every step is a
@@ -25,6 +25,7 @@ pub mod hex;
 pub mod hyena;
 pub mod lines;
 pub mod lioness;
+pub mod pack;
 pub mod random;
 mod square;
 pub mod tool_cases;

@@ -7,7 +7,7 @@ use std::process::ExitCode;
 
 use second::{cases, edges, golden, tool_cases};
 
-const USAGE: &str = "usage: second cases | second answers <CASES | second edges \
+const USAGE: &str = "usage: second cases | second answers <CASES | second edges | second packs \
                      | second golden DIRECTORY | second tool-cases DIRECTORY";
 
 fn read_all() -> io::Result<Vec<u8>> {
@@ -31,6 +31,7 @@ fn run(arguments: &[OsString]) -> io::Result<bool> {
         ("cases", []) => write_all(&cases::cases())?,
         ("answers", []) => write_all(&cases::answers(&read_all()?))?,
         ("edges", []) => write_all(&edges::edges())?,
+        ("packs", []) => write_all(&edges::packs())?,
         ("golden", [directory]) => golden::write(Path::new(directory))?,
         ("tool-cases", [directory]) => tool_cases::write(Path::new(directory))?,
         _ => return Ok(false),

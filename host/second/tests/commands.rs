@@ -46,6 +46,19 @@ fn edges_are_printed_one_on_each_line() {
     assert!(!text.contains("  ") && !text.contains(" \n"));
 }
 
+#[test]
+fn packs_are_printed_one_on_each_line() {
+    let packs = second(&["packs"], b"");
+    assert!(packs.status.success());
+    let text = String::from_utf8(packs.stdout).expect("letters, digits and spaces");
+    // Two packs cut, one changed, its shuffles, packs that are built, lone words.
+    assert_eq!(text.lines().count(), 11 + 22 + 190 + 64 + 27 + 6 + 25);
+    assert!(text.starts_with("least 0 0 12 0 12 0 0\nleast 1 0 12 0 12 0 0\n"));
+    assert!(text.contains("\nleast 8 1 2 3 3 7 1 0 0 0 0 2 0\n"));
+    assert!(text.ends_with("\nlone 255 255 0 13 0 13 0 0\n"));
+    assert!(!text.contains("  ") && !text.contains(" \n"));
+}
+
 /// A directory that is not there yet, and goes with this.
 struct Fresh(PathBuf);
 
@@ -131,7 +144,7 @@ fn a_directory_that_cannot_be_written_is_said() {
 
 #[test]
 fn anything_else_gives_a_usage_line_and_status_2() {
-    let wrong: [&[&str]; 13] = [
+    let wrong: [&[&str]; 15] = [
         &[],
         &[""],
         &["case"],
@@ -139,6 +152,8 @@ fn anything_else_gives_a_usage_line_and_status_2() {
         &["answers", "more"],
         &["edges", "more"],
         &["edge"],
+        &["packs", "more"],
+        &["pack"],
         &["--cases"],
         &["golden"],
         &["golden", "one", "two"],

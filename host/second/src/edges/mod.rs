@@ -4,11 +4,12 @@
 //! A line has fields with one space between two of them: words, decimal numbers
 //! and byte strings, these as the comparison program shows them with byte 0
 //! first. The lines of HyENA come first, then those of drawers, then those of
-//! key books.
+//! key books. Lesson packs have lines of their own, which another command prints.
 
 mod books;
 mod cards;
 mod drawers;
+mod packs;
 
 /// The bytes that everything read is filled with. Keys, nonces, associated data
 /// and texts have the salts 1 to 4, this term's book 5 and last term's 6.
@@ -18,10 +19,19 @@ fn filled(salt: usize, len: usize) -> Vec<u8> {
         .collect()
 }
 
-/// What the command prints.
-pub fn edges() -> String {
-    let lines = [cards::lines(), drawers::lines(), books::lines()].concat();
+/// The text of these lines.
+fn text(lines: &[String]) -> String {
     lines.iter().map(|line| format!("{line}\n")).collect()
+}
+
+/// What the command `edges` prints.
+pub fn edges() -> String {
+    text(&[cards::lines(), drawers::lines(), books::lines()].concat())
+}
+
+/// What the command `packs` prints.
+pub fn packs() -> String {
+    text(&packs::lines())
 }
 
 #[cfg(test)]
