@@ -1,3 +1,7 @@
 pub mod Steps
 pub mod Shuffles
 pub mod Cards
+pub mod Whole
+pub mod Demands
+pub mod Unique
+pub mod Examples

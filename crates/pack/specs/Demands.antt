@@ -5,7 +5,7 @@ use mathlib.Core.Bool.{true, false}
 use mathlib.Core.List.{List, [], _∷_, _++_}
 use lib.ListN.{length as List·length}
 use Rattle.words.specs.Block.{part}
-use Rattle.words.specs.Bytes.{bytes}
+use Rattle.words.specs.Bytes.{Bytes, bytes}
 use Rattle.pack.specs.Pack.{reading, cardAt}
 use Rattle.pack.specs.Reader.{toldOf, isCard, readAt}
 use Rattle.pack.specs.declared.Card.{Card}
@@ -29,7 +29,8 @@ abbrev pub AllOf : ℕ → List Card → Type 0
 AllOf kind [] = Unit {0}
 AllOf kind (c ∷ cs) = (toldOf c 0 .kind ≡ kind) × AllOf kind cs
 
--- a pack that is accepted: its words, its songs and its shuffle; what is between them is their counts and lengths
+-- a pack that is accepted: its words, its songs and its shuffle, with nothing between them but counts and lengths; and
+-- the most that these come to
 pub record Whole (s : List ℕ) : Type 0 where
   pub words : List Card
   pub songs : List Card
@@ -38,6 +39,7 @@ pub record Whole (s : List ℕ) : Type 0 where
   pub cards : reading s .cards ≡ words ++ (songs ++ (shuffle ∷ []))
   pub is : s ≡ bytes 1 (List·length words) ++ (items s 1 words
       ++ (bytes 1 (List·length songs) ++ (items s 2 songs ++ items s 1 (shuffle ∷ []))))
+  pub most : List·length s ≤ 16893
 
 pub record Demands (s : List ℕ) : Type 0 where
   -- "A refusal keeps the reader's place and is given again", and so is done
@@ -50,5 +52,5 @@ pub record Demands (s : List ℕ) : Type 0 where
       → endOf (cardAt s i) ≤ startOf (cardAt s j)
   -- a walk ends within fifteen calls
   pub fifteen : (place : ℕ) → 14 ≤ place → isCard (cardAt s place) ≡ false
-  -- "the concatenation of its items"
-  pub whole : reading s .ending ≡ Done → Whole s
+  -- a pack that is accepted is its items, one behind the other
+  pub whole : Bytes s → reading s .ending ≡ Done → Whole s
