@@ -5,9 +5,11 @@
    Marked are the bytes of every buffer that is lent, the start counter of a key
    stream, and drawers. Not marked are lengths, that in a card too, and of key
    books the counts and class numbers, which say where to look; the keys beside
-   them are. Every function of the archive is called, done and refused. Nothing
-   may then depend on a marked bit but the exceptions that are named here, each
-   in one place of one call; docs/SECURITY.md explains them. */
+   them are. Nor are the counts, lengths and entries of a lesson pack, by which
+   it is walked and judged; the bytes of its words and its song are. Every
+   function of the archive is called, done and refused. Nothing may then depend
+   on a marked bit but the exceptions that are named here, each in one place of
+   one call; docs/SECURITY.md explains them. */
 
 #include <stdbool.h>
 #include <stdio.h>
@@ -556,6 +558,57 @@ static void check_books(void)
     end("vespruldo_key_find", found.number, VESPRULDO_BOOK_FORM, &none);
 }
 
+/* ---- Lesson packs ---- */
+
+/* Two words of three bytes, a song of five, and the shuffle. */
+enum { WORD_AT = 2, OTHER_AT = 6, SONG_AT = 12, ENTRIES_AT = 18, PACK = 20 };
+
+/* With a byte behind it, to be left over. */
+static void make_pack(uint8_t pack[PACK + 1])
+{
+    static const uint8_t bytes[PACK + 1] = {
+        [0] = 2, [WORD_AT - 1] = 3, [OTHER_AT - 1] = 3, [SONG_AT - 3] = 1,
+        [SONG_AT - 2] = 5, [ENTRIES_AT - 1] = 2, [ENTRIES_AT] = 1,
+    };
+    memcpy(pack, bytes, sizeof bytes);
+    mark(pack + WORD_AT, 3);
+    mark(pack + OTHER_AT, 3);
+    mark(pack + SONG_AT, 5);
+}
+
+/* At every place, that behind the last card too, and as a whole: no part of an
+   answer is marked. */
+static void check_pack(const uint8_t *pack, size_t len, size_t cards,
+                       uint32_t number)
+{
+    for (size_t place = 0; place <= cards; place++) {
+        begin();
+        vespruldo_pack_card card = vespruldo_pack_next(pack, len, place);
+        (void)VALGRIND_CHECK_MEM_IS_DEFINED(&card, sizeof card);
+        end("vespruldo_pack_next", card.number,
+            place < cards ? VESPRULDO_DONE : number, &none);
+    }
+    begin();
+    vespruldo_pack_judged judged = vespruldo_pack_judge(pack, len);
+    (void)VALGRIND_CHECK_MEM_IS_DEFINED(&judged.cards, sizeof judged.cards);
+    (void)VALGRIND_CHECK_MEM_IS_DEFINED(&judged.bad, sizeof judged.bad);
+    end("vespruldo_pack_judge", judged.number, number, &none);
+}
+
+static void check_packs(void)
+{
+    uint8_t pack[PACK + 1];
+    make_pack(pack);
+    check_pack(pack, PACK, 4, VESPRULDO_DONE);
+    check_pack(pack, SONG_AT, 2, VESPRULDO_CUT_SHORT);
+    check_pack(pack, PACK - 1, 3, VESPRULDO_CUT_SHORT);
+    check_pack(pack, PACK + 1, 4, VESPRULDO_LEFT_OVER);
+    pack[ENTRIES_AT] = 0;
+    check_pack(pack, PACK, 3, VESPRULDO_BAD_SHUFFLE);
+    pack[SONG_AT - 3] = 2;
+    check_pack(pack, PACK, 2, VESPRULDO_COUNT_OR_LENGTH);
+}
+
 /* ---- What is given nothing ---- */
 
 static void check_version(void)
@@ -613,6 +666,7 @@ int main(void)
     check_draws(5, VESPRULDO_DONE);
     check_draws(UINT64_MAX, VESPRULDO_DRAWER_SPENT);
     check_books();
+    check_packs();
     check_version();
     printf("constant time: %lu calls%s\n", calls,
            failed ? ", not all as they should be" : "");

@@ -1,5 +1,5 @@
-/* See calls.h. Lengths and numbers stand here as document 01 has them
-   and not by the header's names: the header is on trial too. */
+/* See calls.h. Lengths and numbers stand here as the documents have them and
+   not by the header's names: the header is on trial too. */
 
 #define _POSIX_C_SOURCE 200112L
 
@@ -72,6 +72,18 @@ static uint32_t run_key_find(struct call *call)
     call->found = vespruldo_key_find(LENT(THIS_TERM), LENT(LAST_TERM),
                                      call->class_number);
     return call->found.number;
+}
+
+static uint32_t run_pack_next(struct call *call)
+{
+    call->card = vespruldo_pack_next(LENT(PACK), call->place);
+    return call->card.number;
+}
+
+static uint32_t run_pack_judge(struct call *call)
+{
+    call->judged = vespruldo_pack_judge(LENT(PACK));
+    return call->judged.number;
 }
 
 static uint32_t run_lioness_encipher(struct call *call)
@@ -167,7 +179,7 @@ const struct function functions[FUNCTIONS] = {
                              WITH_TEXT(ROOM, WRITTEN, 30, SIZE_MAX, 6, 6)},
                    .opened_by = &functions[CARD_OPEN], .as_seal = true},
     [CARD_OPEN] = {.name = "vespruldo_card_open", .run = run_card_open,
-                   .number = opening_number, .refusal = 7,
+                   .number = opening_number, .refusals = {7},
                    .part_count = 4,
                    .parts = {CARD_KEY, CARD_DATA,
                              WITH_TEXT(CARD, READ, 30, 30, 12, 15),
@@ -179,7 +191,7 @@ const struct function functions[FUNCTIONS] = {
               .opened_by = &functions[OPEN],
               .other_form = &functions[SEAL_SHORT]},
     [OPEN] = {.name = "vespruldo_open", .run = run_open,
-              .number = opening_number, .refusal = 7,
+              .number = opening_number, .refusals = {7},
               .part_count = 6,
               .parts = {CARD_KEY, CARD_NONCE, CARD_DATA, CARD_TEXT(READ),
                         CARD_TAG(READ), CARD_ROOM}},
@@ -190,7 +202,7 @@ const struct function functions[FUNCTIONS] = {
                     .opened_by = &functions[OPEN_SHORT],
                     .other_form = &functions[SEAL]},
     [OPEN_SHORT] = {.name = "vespruldo_open_short", .run = run_open_short,
-                    .number = opening_number, .refusal = 7,
+                    .number = opening_number, .refusals = {7},
                     .part_count = 5,
                     .parts = {CARD_KEY, CARD_NONCE, CARD_TEXT(READ),
                               CARD_TAG(READ), CARD_ROOM}},
@@ -203,21 +215,27 @@ const struct function functions[FUNCTIONS] = {
                        .as_seal = true},
     [OPEN_IN_PLACE] = {.name = "vespruldo_open_in_place",
                        .run = run_open_in_place,
-                       .number = opening_number, .refusal = 7,
+                       .number = opening_number, .refusals = {7},
                        .part_count = 5,
                        .parts = {CARD_KEY, CARD_NONCE, CARD_DATA,
                                  CARD_TEXT(CHANGED), CARD_TAG(READ)}},
     [DRAWER_START] = {.name = "vespruldo_drawer_start"},
-    [DRAWER_DRAW] = {.name = "vespruldo_drawer_draw", .refusal = 9},
-    [DRAWER_IV] = {.name = "vespruldo_drawer_iv", .refusal = 9},
+    [DRAWER_DRAW] = {.name = "vespruldo_drawer_draw", .refusals = {9}},
+    [DRAWER_IV] = {.name = "vespruldo_drawer_iv", .refusals = {9}},
     [DRAWER_STORE] = {.name = "vespruldo_drawer_store"},
     [DRAWER_LOAD] = {.name = "vespruldo_drawer_load", .run = run_drawer_load,
-                     .number = loading_number, .refusal = 106,
+                     .number = loading_number, .refusals = {106},
                      .part_count = 1, .parts = {ANY(STORED)}},
     [KEY_FIND] = {.name = "vespruldo_key_find", .run = run_key_find,
-                  .number = find_number, .refusal = 10, .other_refusal = 11,
+                  .number = find_number, .refusals = {10, 11},
                   .part_count = 2,
                   .parts = {ANY(THIS_TERM), ANY(LAST_TERM)}},
+    [PACK_NEXT] = {.name = "vespruldo_pack_next", .run = run_pack_next,
+                   .number = plain_pack_number, .refusals = {12, 13, 14, 15},
+                   .part_count = 1, .parts = {ANY(PACK)}},
+    [PACK_JUDGE] = {.name = "vespruldo_pack_judge", .run = run_pack_judge,
+                    .number = plain_pack_number, .refusals = {12, 13, 14, 15},
+                    .part_count = 1, .parts = {ANY(PACK)}},
     [LIONESS_ENCIPHER] = {.name = "vespruldo_lioness_encipher",
                           .run = run_lioness_encipher,
                           .part_count = 3, .parts = LIONESS_PARTS,
@@ -235,7 +253,7 @@ const struct function functions[FUNCTIONS] = {
                        .part_count = 2, .parts = GIFT_PARTS,
                        .undone_by = &functions[GIFT_ENCIPHER]},
     [CHACHA20] = {.name = "vespruldo_chacha20", .run = run_chacha20,
-                  .number = stream_number, .refusal = 8,
+                  .number = stream_number, .refusals = {8},
                   .part_count = 3,
                   .parts = {PART(KEY, READ, 32, 32, 1), CARD_NONCE,
                             CARD_TEXT(CHANGED)},
@@ -245,7 +263,7 @@ const struct function functions[FUNCTIONS] = {
                  .parts = {PART(KEY, READ, 0, 64, 1), CARD_TEXT(READ),
                            PART(ROOM, WRITTEN, 1, 64, 6)}},
     [SAME] = {.name = "vespruldo_same", .run = run_same,
-              .number = same_number, .refusal = 1,
+              .number = same_number, .refusals = {1},
               .part_count = 2, .parts = {ANY(ONE), ANY(OTHER)}},
     [VERSION] = {.name = "vespruldo_version"},
     [INTERFACE] = {.name = "vespruldo_interface_1"},
@@ -255,7 +273,7 @@ static const char *const role_names[ROLES] = {
     [KEY] = "key",
     [NONCE] = "nonce or iv",
     [DATA] = "data",
-    [TEXT] = "text, block, card, drawer or this term's book",
+    [TEXT] = "text, block, card, pack, drawer or this term's book",
     [TAG] = "tag",
     [ROOM] = "room or last term's book",
 };
@@ -331,8 +349,10 @@ void require(const struct thread *thread, bool holds, const char *otherwise)
 
 bool promised(const struct function *function, uint32_t number)
 {
-    bool found = number == 0 || number == function->refusal ||
-                 number == function->other_refusal;
+    bool found = number == 0;
+    for (size_t r = 0; r < sizeof function->refusals / sizeof number; r++) {
+        found = found || number == function->refusals[r];
+    }
     for (size_t p = 0; p < function->part_count; p++) {
         found = found || number == function->parts[p].too_short ||
                 number == function->parts[p].too_long;

@@ -1,5 +1,5 @@
 /* The functions of the archive as a table, and one way to call any of them
-   that checks what document 01 says of every call. */
+   that checks what documents 01 and 02 say of every call. */
 
 #ifndef GUARDED_CALLS_H
 #define GUARDED_CALLS_H
@@ -13,10 +13,11 @@
 enum role { KEY, NONCE, DATA, TEXT, TAG, ROOM, ROLES };
 
 /* Books, and two buffers to be compared, are lent in the arenas of text and
-   room: no call has all of these. So are a card that is opened and a drawer that
-   is loaded, in that of the text. */
+   room: no call has all of these. So are a pack, a card that is opened and a
+   drawer that is loaded, in that of the text. */
 #define THIS_TERM TEXT
 #define LAST_TERM ROOM
+#define PACK TEXT
 #define CARD TEXT
 #define STORED TEXT
 #define ONE TEXT
@@ -39,6 +40,7 @@ enum function_name {
     CARD_SEAL, CARD_OPEN, SEAL, OPEN, SEAL_SHORT, OPEN_SHORT,
     SEAL_IN_PLACE, OPEN_IN_PLACE,
     DRAWER_START, DRAWER_DRAW, DRAWER_IV, DRAWER_STORE, DRAWER_LOAD, KEY_FIND,
+    PACK_NEXT, PACK_JUDGE,
     LIONESS_ENCIPHER, LIONESS_DECIPHER,
     GIFT_ENCIPHER, GIFT_DECIPHER, CHACHA20, BLAKE2B,
     SAME, VERSION, INTERFACE,
@@ -56,9 +58,9 @@ struct function {
     size_t part_count;
     /* In the order of their refusals. */
     struct part parts[6];
-    /* A refusal that is not one of a length; one more where that has two. What
-       is not a refusal is counted as one: that two buffers are the same. */
-    uint32_t refusal, other_refusal;
+    /* Refusals that are not ones of a length, and 0 behind them. What is not a
+       refusal is counted as one: that two buffers are the same. */
+    uint32_t refusals[4];
     /* Works in one buffer, and this function gives back what was there. */
     const struct function *undone_by;
     /* Seals, and this function opens. */
@@ -79,10 +81,13 @@ struct call {
     struct loan loans[ROLES];
     uint32_t start;
     uint16_t class_number;
+    size_t place;
     /* What is to be opened was sealed so; what is to be loaded, stored so. */
     bool opens;
     vespruldo_found found;
     vespruldo_loaded loaded;
+    vespruldo_pack_card card;
+    vespruldo_pack_judged judged;
 };
 
 /* Loans of a call lie in one of two sets of arenas, so that a second call can
@@ -142,5 +147,9 @@ void count(struct thread *thread, enum function_name name, uint32_t number);
 /* What looking the class up must answer, by a plain search; it stands in
    books.c. */
 vespruldo_found plain_find(const struct call *call);
+
+/* The number that reading the pack must answer, by a plain walk; it stands in
+   packs.c. */
+uint32_t plain_pack_number(const struct call *call);
 
 #endif

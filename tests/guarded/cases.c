@@ -5,8 +5,9 @@
 #include <string.h>
 
 /* Every so many rounds through the functions a length is the longest, or one
-   more: such a call takes as long as ten thousand others. */
-#define LONG_EVERY 300
+   more: such a call takes as long as ten thousand others. Four of these rounds
+   bring every number, which main.c counts on. */
+#define LONG_EVERY 250
 /* From here the key stream for the longest text ends with the last counter. */
 #define LAST_LONG_START (UINT32_MAX - 1048576 / 64 + 1)
 /* What a wide block has before its right part, and the nonce of one step. */
@@ -368,6 +369,10 @@ void make_case(struct thread *thread, uint64_t case_number)
         break;
     case KEY_FIND:
         book_case(thread, long_turn);
+        break;
+    case PACK_NEXT:
+    case PACK_JUDGE:
+        pack_case(thread);
         break;
     case SAME:
         same_case(thread);

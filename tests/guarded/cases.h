@@ -9,6 +9,13 @@
 /* Fails unless the functions answer what others have published, or computed. */
 void check_published(struct thread *thread);
 
+/* Fails unless these lesson packs are read as they should be: those worked out
+   by hand, those cut at every byte, and those with every number in every entry
+   of their shuffle. */
+void check_worked_packs(struct thread *thread);
+void check_cut_packs(struct thread *thread);
+void check_shuffles(struct thread *thread);
+
 /* Makes the case that the thread's seed and this number give. */
 void make_case(struct thread *thread, uint64_t case_number);
 
@@ -18,8 +25,12 @@ void buffer_case(struct thread *thread, enum function_name name,
                  size_t long_turn);
 void drawer_case(struct thread *thread);
 void book_case(struct thread *thread, size_t long_turn);
+void pack_case(struct thread *thread);
 void same_case(struct thread *thread);
 void header_case(struct thread *thread);
+
+/* Reads hexadecimal digits, and answers how many bytes they are. */
+size_t read_hex(const char *digits, uint8_t *bytes);
 
 /* A length, mostly of a few blocks, and often at the edge of one. */
 size_t short_length(struct random *random);

@@ -1,6 +1,7 @@
 /* Calls every function of the archive with right and wrong lengths, from many
    threads at once, on buffers that lie between guards (memory.h), and
-   checks what document 01 says of each call without a second implementation.
+   checks what documents 01 and 02 say of each call without a second
+   implementation.
 
        guarded [cases [threads [seed]]]
 
@@ -63,6 +64,9 @@ static void *run_thread(void *argument)
     thread->random = random_of_case(thread->seed, 0);
     pthread_barrier_wait(&all_ready);
     check_published(thread);
+    check_worked_packs(thread);
+    check_cut_packs(thread);
+    check_shuffles(thread);
     for (uint64_t n = thread->number; n < cases; n += thread_count) {
         make_case(thread, n);
     }

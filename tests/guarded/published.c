@@ -67,7 +67,7 @@ static uint8_t digit(char letter)
     return (uint8_t)(letter <= '9' ? letter - '0' : letter - 'a' + 10);
 }
 
-static size_t read_hex(const char *digits, uint8_t *bytes)
+size_t read_hex(const char *digits, uint8_t *bytes)
 {
     size_t len = strlen(digits) / 2;
     for (size_t j = 0; j < len; j++) {

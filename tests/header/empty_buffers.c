@@ -79,6 +79,11 @@ static void others(void)
        vespruldo_key_find(vespruldo_no_book, sizeof vespruldo_no_book,
                           vespruldo_no_book, sizeof vespruldo_no_book, 7)
            .number);
+    is("pack_next", VESPRULDO_CUT_SHORT,
+       vespruldo_pack_next(NULL, 0, 0).number);
+    is("pack_next", VESPRULDO_CUT_SHORT,
+       vespruldo_pack_next(NULL, 0, SIZE_MAX).number);
+    is("pack_judge", VESPRULDO_CUT_SHORT, vespruldo_pack_judge(NULL, 0).number);
 }
 
 int main(void)

@@ -43,5 +43,20 @@ uint32_t called(void)
 #elif MISTAKE == 8 /* unused-result */
     vespruldo_same(text, len, tag, 16);
     return 0;
+#elif MISTAKE == 9 /* unused-result */
+    /* Nor at a struct: it was not told apart whether there is a card. */
+    vespruldo_pack_next(text, len, 0);
+    return 0;
+#elif MISTAKE == 10 /* unused-result */
+    vespruldo_pack_judge(text, len);
+    return 0;
+#elif MISTAKE == 11 /* stringop-overread */
+    /* The pack has fewer bytes than are said. */
+    return vespruldo_pack_next(small, 21, 0).number;
+#elif MISTAKE == 12 /* stringop-overread */
+    return vespruldo_pack_judge(small, 21).number;
+#elif MISTAKE == 13 /* nonnull */
+    /* There is no pack at all. */
+    return vespruldo_pack_judge(NULL, 20).number;
 #endif
 }
