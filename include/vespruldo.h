@@ -22,9 +22,9 @@
    lock around it.
 
    Numbers. The answer is VESPRULDO_DONE or the number of the refusal; if
-   several apply, the first that the function's comment names. A refusal changes
-   no buffer, with one exception: WRONG_TAG (see the functions that open).
-   Comments leave out the prefix VESPRULDO_.
+   several apply, the first that the function's comment names (lesson packs say
+   it otherwise). A refusal changes no buffer, with one exception: WRONG_TAG
+   (see the functions that open). Comments leave out the prefix VESPRULDO_.
 
    What each function of the archive answers and what its buffers then hold is
    proved for all inputs. docs/READING.md says what is believed and what is only
@@ -431,40 +431,6 @@ typedef struct vespruldo_found {
 #define VESPRULDO_THIS_TERM 0
 #define VESPRULDO_LAST_TERM 1
 
-/* What a reader of a lesson pack answers: a card, done, or a refusal. */
-typedef struct {
-    uint32_t number; /* VESPRULDO_DONE or the refusal */
-    uint32_t kind;   /* VESPRULDO_NO_CARD if there is no card any more */
-    size_t start;    /* of a card: where in the pack its bytes start */
-    size_t length;   /* and how many they are, at least 1 */
-    size_t bad;      /* of BAD_SHUFFLE: the place of the first bad entry */
-    size_t next;     /* the place to ask for next */
-} vespruldo_pack_card;
-
-#define VESPRULDO_NO_CARD 0
-#define VESPRULDO_WORD 1
-#define VESPRULDO_SONG 2
-#define VESPRULDO_SHUFFLE 3
-
-/* What a lesson pack is as a whole. */
-typedef struct {
-    uint32_t number; /* VESPRULDO_DONE or the refusal */
-    size_t cards;    /* how many cards are given, all or those before it */
-    size_t bad;      /* of BAD_SHUFFLE: the place of the first bad entry */
-} vespruldo_pack_judged;
-
-/* Does not compile where a `#pragma pack` that was left open, or an option, has
-   packed the structs, which would then lie elsewhere than in the archive. */
-typedef char vespruldo_structs_are_not_packed
-    [sizeof(vespruldo_drawer) == 16 && sizeof(vespruldo_drawn) == 32 &&
-             sizeof(vespruldo_drawn_iv) == 72 &&
-             sizeof(vespruldo_stored) == 44 && sizeof(vespruldo_loaded) == 24 &&
-             sizeof(vespruldo_found) == 16 &&
-             sizeof(vespruldo_pack_card) == 40 &&
-             sizeof(vespruldo_pack_judged) == 24
-         ? 1
-         : -1];
-
 /* Looks up the key of a class in this term's book and, if that has none, in
    last term's. A key book is a count of two bytes, then for each entry a class
    number of two bytes and a key of 16; numbers are little-endian. Where there
@@ -503,7 +469,43 @@ static inline const uint8_t *vespruldo_found_key(vespruldo_found found,
    words, 1 to 12; each is a length byte, 1 to 40, and its bytes. A byte counts
    the songs, 0 or 1; a song is a length of two bytes (little-endian), 1 to
    16,384, and its bytes. A byte counts the shuffle's entries, as many as words;
-   each is a byte, and every word's place, from 0, is there once. */
+   each is a byte, and every word's place, from 0, is there once. The cards of a
+   pack are parts of it, and have nothing to do with sealed cards.
+   examples/pack.c judges a pack and plays it. */
+
+/* What a reader of a lesson pack answers: a card, done, or a refusal. */
+typedef struct vespruldo_pack_card {
+    uint32_t number; /* VESPRULDO_DONE or the refusal */
+    uint32_t kind;   /* VESPRULDO_NO_CARD if there is no card any more */
+    size_t start;    /* of a card: where in the pack its bytes start */
+    size_t length;   /* and how many they are, at least 1 */
+    size_t bad;      /* of BAD_SHUFFLE: the place of the first bad entry */
+    size_t next;     /* the place to ask for next */
+} vespruldo_pack_card;
+
+#define VESPRULDO_NO_CARD 0
+#define VESPRULDO_WORD 1
+#define VESPRULDO_SONG 2
+#define VESPRULDO_SHUFFLE 3
+
+/* What a lesson pack is as a whole. */
+typedef struct vespruldo_pack_judged {
+    uint32_t number; /* VESPRULDO_DONE or the refusal */
+    size_t cards;    /* how many cards the walk gives before it ends */
+    size_t bad;      /* of BAD_SHUFFLE: the place of the first bad entry */
+} vespruldo_pack_judged;
+
+/* Does not compile where a `#pragma pack` that was left open, or an option, has
+   packed the structs, which would then lie elsewhere than in the archive. */
+typedef char vespruldo_structs_are_not_packed
+    [sizeof(vespruldo_drawer) == 16 && sizeof(vespruldo_drawn) == 32 &&
+             sizeof(vespruldo_drawn_iv) == 72 &&
+             sizeof(vespruldo_stored) == 44 && sizeof(vespruldo_loaded) == 24 &&
+             sizeof(vespruldo_found) == 16 &&
+             sizeof(vespruldo_pack_card) == 40 &&
+             sizeof(vespruldo_pack_judged) == 24
+         ? 1
+         : -1];
 
 /* The next card. A reader holds a pack and its place, how many cards have been
    given: it starts at 0 and goes on at `next`.
@@ -518,15 +520,16 @@ static inline const uint8_t *vespruldo_found_key(vespruldo_found found,
    The cards are each word, the song if there is one, and the shuffle as one, in
    this order; then comes NO_CARD with DONE, or with a refusal. Both leave the
    place where it is and are given again, so a walk ends within fifteen calls,
-   whatever the bytes are. Every place has its answer. The bytes of a card lie
-   within the pack. A card is given before what stands behind it has been looked
-   at: whoever wants to play a whole pack or nothing judges it first.
+   whatever the bytes are. A place behind the last card is answered as the end
+   of the walk is. The bytes of a card lie within the pack. A card is given
+   before what stands behind it has been looked at: whoever wants to play a
+   whole pack or nothing judges it first.
 
-   Refusals: the first met from the left of CUT_SHORT (a count, or a length or
-   the shuffle's count with the bytes that it counts, is not wholly there),
-   COUNT_OR_LENGTH (it is, and is not allowed), BAD_SHUFFLE (an entry repeats an
-   earlier one or is too large) and LEFT_OVER (bytes behind the shuffle). What
-   does not apply to an answer is 0. */
+   Refusals, the first that is met from the left: CUT_SHORT (a count, a length
+   with its bytes, or the shuffle's count with its entries is not wholly there),
+   COUNT_OR_LENGTH (it is there, and the count or length is not allowed),
+   BAD_SHUFFLE (an entry repeats an earlier one or is too large), LEFT_OVER
+   (bytes behind the shuffle). What does not apply to an answer is 0. */
 VESPRULDO_LOOK_AT_ANSWER
 VESPRULDO_READS(1, 2)
 vespruldo_pack_card vespruldo_pack_next(const uint8_t *pack, size_t pack_len,

@@ -20,9 +20,9 @@ use Rattle.pack.specs.Demands.{startOf, endOf}
 use Rattle.pack.specs.declared.Card.{Card}
 use Rattle.pack.specs.declared.Card.the-variants.{Word, Song, Shuffle, Done, Refused, BadShuffle}
 use Rattle.pack.specs.declared.items.Shape.{Shape}
-use Rattle.pack.specs.declared.Told.{Told}
+use Rattle.pack.specs.declared.PackCard.{PackCard}
 use Rattle.pack.specs.declared.Read.{Read}
-use Rattle.pack.specs.declared.Judged.{Judged}
+use Rattle.pack.specs.declared.PackJudged.{PackJudged}
 use Rattle.pack.proofs.Steps.{item-goes, item-ends, item-whole, item-least, item-most}
 use Rattle.pack.proofs.Card as C
 
@@ -234,7 +234,7 @@ module _ (s : List ℕ) (p : ℕ) where
   read-end ec e = rw (sym ec, e) refl
 
   -- where a walk that has passed all cards before p ends
-  pub judged-is : p ≤ length (reading s .cards) → isCard (cardAt s p) ≡ false → {t : Told} → t ≡ toldOf (cardAt s p) p
+  pub judged-is : p ≤ length (reading s .cards) → isCard (cardAt s p) ≡ false → {t : PackCard} → t ≡ toldOf (cardAt s p) p
       → record { number = t .number; cards = p; bad = t .bad } ≡ judged s
   unfolding judged
   judged-is h e et =

@@ -10,8 +10,8 @@ use Rattle.pack.specs.Pack.{reading, cardAt}
 use Rattle.pack.specs.Reader.{told, toldOf, isCard, readAt, judged}
 use Rattle.pack.specs.declared.Card.{Card}
 use Rattle.pack.specs.declared.Card.the-variants.{Word, Song, Shuffle, Done, Refused, BadShuffle}
-use Rattle.pack.specs.declared.Told.{Told}
-use Rattle.pack.specs.declared.Judged.{Judged}
+use Rattle.pack.specs.declared.PackCard.{PackCard}
+use Rattle.pack.specs.declared.PackJudged.{PackJudged}
 
 -- "The bytes 01 03 63 61 74 00 01 00 are a pack with one word, no song."
 abbrev pub one : List ℕ
@@ -64,7 +64,7 @@ unfolding number placeOf offends firstFrom item many counted shuffle reading
 readings = refl
 
 -- as C has it, at the places 0, 1, 2 and 20
-pub answers : _≡_ {A = List Told}
+pub answers : _≡_ {A = List PackCard}
     (told (readAt one 0) ∷ told (readAt one 1) ∷ told (readAt one 2) ∷ told (readAt one 20) ∷ [])
     (
     record { number = 0; kind = 1; start = 2; length = 3; bad = 0; next = 1 }
@@ -76,7 +76,7 @@ pub answers : _≡_ {A = List Told}
 unfolding number placeOf offends firstFrom item many counted shuffle reading cardAt answerAt toldOf isCard readAt
 answers = refl
 
-pub verdicts : _≡_ {A = List Judged}
+pub verdicts : _≡_ {A = List PackJudged}
     (judged one ∷ judged (two (7 ∷ 8 ∷ 2 ∷ 1 ∷ 1 ∷ [])) ∷ judged (one ++ one) ∷ [])
     (
     record { number = 0; cards = 2; bad = 0 }

@@ -9,8 +9,8 @@ use Rattle.pack.specs.Reader.{readAt, told, readerOf, Moved, Moves, judg
 use Rattle.pack.specs.declared.Card.{Card}
 use Rattle.pack.specs.declared.Read.{Read}
 use Rattle.pack.specs.declared.Reader.{Reader}
-use Rattle.pack.specs.declared.Told.{Told}
-use Rattle.pack.specs.declared.Judged.{Judged}
+use Rattle.pack.specs.declared.PackCard.{PackCard}
+use Rattle.pack.specs.declared.PackJudged.{PackJudged}
 
 pub card-at-unique : (s : List ℕ) (place : ℕ) {a b : Card} → a ≡ cardAt s place → b ≡ cardAt s place → a ≡ b
 card-at-unique s place = same
@@ -18,11 +18,11 @@ card-at-unique s place = same
 pub read-at-unique : (s : List ℕ) (place : ℕ) {a b : Read} → a ≡ readAt s place → b ≡ readAt s place → a ≡ b
 read-at-unique s place = same
 
-pub told-at-unique : (s : List ℕ) (place : ℕ) {a b : Told} → a ≡ told (readAt s place) → b ≡ told (readAt s place)
+pub told-at-unique : (s : List ℕ) (place : ℕ) {a b : PackCard} → a ≡ told (readAt s place) → b ≡ told (readAt s place)
     → a ≡ b
 told-at-unique s place = same
 
-pub judge-unique : (s : List ℕ) {a b : Judged} → a ≡ judged s → b ≡ judged s → a ≡ b
+pub judge-unique : (s : List ℕ) {a b : PackJudged} → a ≡ judged s → b ≡ judged s → a ≡ b
 judge-unique s = same
 
 pub reader-of-unique : (s : RefT (List ℕ)) {a b : Reader} → a ≡ readerOf s → b ≡ readerOf s → a ≡ b

@@ -10,12 +10,12 @@ use Rattle.pack.specs.declared.Card.{Card}
 use Rattle.pack.specs.declared.Card.the-variants.{Word, Song, Shuffle, Done, Refused, BadShuffle}
 use Rattle.pack.specs.declared.Read.{Read}
 use Rattle.pack.specs.declared.Reader.{Reader}
-use Rattle.pack.specs.declared.Told.{Told}
-use Rattle.pack.specs.declared.Judged.{Judged}
+use Rattle.pack.specs.declared.PackCard.{PackCard}
+use Rattle.pack.specs.declared.PackJudged.{PackJudged}
 
 -- the document's number, and "its kind, and start and length of its bytes" (1 a word, 2 a song, 3 a shuffle); "A bad
 -- shuffle also answers the place"
-unfoldable pub toldOf : Card → ℕ → Told
+unfoldable pub toldOf : Card → ℕ → PackCard
 toldOf (Word start n) next = record { number = 0; kind = 1; start = start; length = n; bad = 0; next = next }
 toldOf (Song start n) next = record { number = 0; kind = 2; start = start; length = n; bad = 0; next = next }
 toldOf (Shuffle start n) next = record { number = 0; kind = 3; start = start; length = n; bad = 0; next = next }
@@ -23,7 +23,7 @@ toldOf Done next = record { number = 0; kind = 0; start = 0; length = 0; bad = 0
 toldOf (Refused r) next = record { number = r; kind = 0; start = 0; length = 0; bad = 0; next = next }
 toldOf (BadShuffle i) next = record { number = 14; kind = 0; start = 0; length = 0; bad = i; next = next }
 
-abbrev pub told : Read → Told
+abbrev pub told : Read → PackCard
 told r = toldOf (r .card) (r .next)
 
 -- is it a card
@@ -57,7 +57,7 @@ abbrev pub Moves : Card → Reader → Reader → Type 0
 Moves c r r′ = record { card = c; reader = r′ } ≡ moved r
 
 -- the whole pack: its number, how many cards it gives, and where its shuffle is bad
-unfoldable pub judged : List ℕ → Judged
+unfoldable pub judged : List ℕ → PackJudged
 judged s =
     let r = reading s in
     let n = List·length (r .cards) in

@@ -36,7 +36,7 @@ pub struct Reader<'a> {
 // An answer as C has it: 0 or the refusal; 1 for a word, 2 for a song, 3 for a shuffle, 0 for no card; the start and
 // the length of its bytes; the place of the entry at which a shuffle is bad; the reader's place after it.
 #[repr(C)]
-pub struct Told {
+pub struct PackCard {
     pub number: u32,
     pub kind: u32,
     pub start: usize,
@@ -48,7 +48,7 @@ pub struct Told {
 // What a pack is as a whole: 0 or the refusal; how many cards are given before that; the place of the entry at which
 // the shuffle is bad.
 #[repr(C)]
-pub struct Judged {
+pub struct PackJudged {
     pub number: u32,
     pub cards: usize,
     pub bad: usize,
@@ -88,7 +88,7 @@ pub fn read_at(pack: &[u8], place: usize) -> Read
 }
 
 // The same as C has it.
-pub fn told_at(pack: &[u8], place: usize) -> Told
+pub fn told_at(pack: &[u8], place: usize) -> PackCard
     ensures { λ r. ⌜ r ≡ told (readAt (now (pack .entry)) place) ⌝ }
 {
     let read = read_at(pack, place);
@@ -97,7 +97,7 @@ pub fn told_at(pack: &[u8], place: usize) -> Told
 }
 
 // Walks the whole pack.
-pub fn judge(pack: &[u8]) -> Judged
+pub fn judge(pack: &[u8]) -> PackJudged
     ensures { λ r. ⌜ r ≡ judged (now (pack .entry)) ⌝ }
 {
     let mut place = 0;
@@ -105,7 +105,7 @@ pub fn judge(pack: &[u8]) -> Judged
         let card = card_at(pack, place);
         let (Card::Word { .. } | Card::Song { .. } | Card::Shuffle { .. }) = card else {
             let told = told_of(card, place);
-            return Judged {
+            return PackJudged {
                 number: told.number,
                 cards: place,
                 bad: told.bad,
@@ -146,7 +146,7 @@ fn answer(found: Found) -> Card
 }
 
 // The document's number and values for each case.
-fn told_of(card: Card, next: usize) -> Told
+fn told_of(card: Card, next: usize) -> PackCard
     ensures { λ r. ⌜ r ≡ toldOf card next ⌝ }
 {
     match card {
@@ -159,10 +159,10 @@ fn told_of(card: Card, next: usize) -> Told
     }
 }
 
-fn given(kind: u32, start: usize, length: usize, next: usize) -> Told
+fn given(kind: u32, start: usize, length: usize, next: usize) -> PackCard
     ensures { λ r. ⌜ r ≡ record { number = 0; kind = kind; start = start; length = length; bad = 0; next = next } ⌝ }
 {
-    Told {
+    PackCard {
         number: 0,
         kind: kind,
         start: start,
@@ -172,10 +172,10 @@ fn given(kind: u32, start: usize, length: usize, next: usize) -> Told
     }
 }
 
-fn ended(number: u32, bad: usize, next: usize) -> Told
+fn ended(number: u32, bad: usize, next: usize) -> PackCard
     ensures { λ r. ⌜ r ≡ record { number = number; kind = 0; start = 0; length = 0; bad = bad; next = next } ⌝ }
 {
-    Told {
+    PackCard {
         number: number,
         kind: 0,
         start: 0,

@@ -6,8 +6,8 @@ use drawer::Drawn;
 use drawer::DrawnIv;
 use drawer_file::Loaded;
 use drawer_file::Stored;
-use pack::Judged;
-use pack::Told;
+use pack::PackCard;
+use pack::PackJudged;
 ghost use mathlib.Core.Path.{_≡_};
 ghost use Rattle.words.specs.Search.{same};
 ghost use Rattle.gift.specs.Entry as gift;
@@ -221,14 +221,14 @@ pub extern "C" fn vespruldo_key_find(this_term: &[u8], last_term: &[u8], class: 
 }
 
 #[no_mangle]
-pub extern "C" fn vespruldo_pack_next(pack: &[u8], place: usize) -> Told
+pub extern "C" fn vespruldo_pack_next(pack: &[u8], place: usize) -> PackCard
     ensures { λ r. ⌜ r ≡ told (readAt (now (pack .entry)) place) ⌝ }
 {
     pack::told_at(pack, place)
 }
 
 #[no_mangle]
-pub extern "C" fn vespruldo_pack_judge(pack: &[u8]) -> Judged
+pub extern "C" fn vespruldo_pack_judge(pack: &[u8]) -> PackJudged
     ensures { λ r. ⌜ r ≡ judged (now (pack .entry)) ⌝ }
 {
     pack::judge(pack)

@@ -1,14 +1,14 @@
 use mathlib.Core.Path.{_≡_, sym, ap, _∙_}
 use Prim.Native.Nat.{ℕ}
 use Rattle.pack.specs.Reader.{toldOf}
-use Rattle.pack.specs.declared.Told.{Told}
+use Rattle.pack.specs.declared.PackCard.{PackCard}
 use Rattle.pack.specs.declared.Card.{Card}
 use borrow.Author.Needs.{needs}
 use Rattle.pack.proofs.told_of.Statement.{statement}
 use Rattle.pack.proofs.told_of.Tie as tie
 
 -- what is told of a card that the match found
-of : {r : Told} {c d : Card} (next : ℕ) → r ≡ toldOf c next → d ≡ c → r ≡ toldOf d next
+of : {r : PackCard} {c d : Card} (next : ℕ) → r ≡ toldOf c next → d ≡ c → r ≡ toldOf d next
 of next e f = e ∙ sym (ap (λ (c : Card). toldOf c next) f)
 
 enum-known-card : tie.Need-enum-known-card
