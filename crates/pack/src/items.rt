@@ -173,9 +173,10 @@ fn item_at(pack: &[u8], at: usize, width: usize, counts: bool, least: usize, mos
 {
     let n = words::load(pack, at, width).lo as usize;
     let whole = width + behind(counts, n);
+    let cut = pack.len() - at < whole;
     let thirteen = row(n < least, 13, row(most < n, 13, 0));
     Item {
-        refused: row(pack.len() - at < whole, 12, thirteen),
+        refused: row(cut, 12, thirteen),
         number: n,
     }
 }

@@ -22,14 +22,14 @@ add-whole c =
     let most = cond-most (a .counts) (c .behind .ensures) in
     omega (arith, small, most, d .before .before .pre .1)
 
+sub-cut : tie.Need-sub-cut
+sub-cut c = search needs
+
 row-requires : tie.Need-row-requires
 row-requires c κs = search needs
 
 row-requires-2 : tie.Need-row-requires-2
 row-requires-2 c κs = search needs
-
-sub-row : tie.Need-sub-row
-sub-row c = search needs
 
 row-requires-3 : tie.Need-row-requires-3
 row-requires-3 c κs = search needs
@@ -50,8 +50,8 @@ item-at-spec =
     load-requires
     behind-requires
     add-whole
+    sub-cut
     row-requires
     row-requires-2
-    sub-row
     row-requires-3
     returns)
