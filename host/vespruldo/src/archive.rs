@@ -45,6 +45,31 @@ pub struct Found {
     pub offset: usize,
 }
 
+/// What a reader of a lesson pack answers: the document's number, the kind of the
+/// card (0 for none, 1 for a word, 2 for the song, 3 for the shuffle), where in the
+/// pack its bytes start and how many they are, with number 14 the place of the
+/// first bad entry, and the place to ask for next.
+#[repr(C)]
+#[derive(Clone, Copy, Debug, PartialEq, Eq)]
+pub struct PackCard {
+    pub number: u32,
+    pub kind: u32,
+    pub start: usize,
+    pub length: usize,
+    pub bad: usize,
+    pub next: usize,
+}
+
+/// What judging a lesson pack answers: the document's number, how many cards come
+/// before what it stands for, and with number 14 the place of the first bad entry.
+#[repr(C)]
+#[derive(Clone, Copy, Debug, PartialEq, Eq)]
+pub struct PackJudged {
+    pub number: u32,
+    pub cards: usize,
+    pub bad: usize,
+}
+
 extern "C" {
     pub fn vespruldo_seal(
         key: *const u8,
@@ -201,6 +226,8 @@ extern "C" {
         last_term_len: usize,
         class: u16,
     ) -> Found;
+    pub fn vespruldo_pack_next(pack: *const u8, pack_len: usize, place: usize) -> PackCard;
+    pub fn vespruldo_pack_judge(pack: *const u8, pack_len: usize) -> PackJudged;
     pub fn vespruldo_same(a: *const u8, a_len: usize, b: *const u8, b_len: usize) -> bool;
     pub fn vespruldo_version() -> u32;
     pub fn vespruldo_interface_1() -> u32;

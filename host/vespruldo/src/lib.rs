@@ -43,8 +43,26 @@
 //! # Ok::<(), vespruldo::Refusal>(())
 //! ```
 //!
-//! What is refused comes back as a [`Refusal`], with its number and its words.
-//! The types rule out the rest:
+//! A lesson pack is judged, and then read card by card:
+//!
+//! ```
+//! use vespruldo::{Card, Pack};
+//!
+//! let pack = Pack::new(b"\x02\x03cat\x02ox\x00\x02\x01\x00");
+//! pack.judge()?;
+//! for card in pack.cards() {
+//!     match card? {
+//!         Card::Word(word) => println!("{}", String::from_utf8_lossy(word)),
+//!         Card::Song(song) => println!("a song of {} bytes", song.len()),
+//!         Card::Shuffle(places) => println!("in the order {places:?}"),
+//!     }
+//! }
+//! # Ok::<(), vespruldo::PackRefusal>(())
+//! ```
+//!
+//! What is refused comes back as a [`Refusal`], with its number and its words, or,
+//! of a lesson pack, as a [`PackRefusal`], which also says where. The types rule
+//! out the rest:
 //!
 //! - A key, nonce, iv or tag has the right length from the moment it is made. (Of
 //!   BLAKE2b key and digest are slices, and may have a wrong one.)
@@ -90,7 +108,7 @@ extern crate alloc;
 // it writes to lie apart from all others. Every call hands over each slice's
 // own pointer and length, the slices are lent for the whole call, and each
 // written one (two in sealing: room or buffer, and tag) is lent mutably, so no
-// other overlaps it. Key books and what is compared are only read and may
+// other overlaps it. Key books, packs and what is compared are only read and may
 // overlap. Drawers, and answers that are more than a number, go by value in the
 // layout that C gives them; they hold only numbers and bytes, for which every
 // value is allowed. The one `bool` comes back as C has it, in a byte that is 0
@@ -107,6 +125,7 @@ mod data;
 mod drawer;
 mod in_place;
 mod lent;
+mod packs;
 mod refusal;
 pub mod sizes;
 pub mod slices;
@@ -122,6 +141,7 @@ pub use data::Data;
 pub use drawer::Drawer;
 pub use in_place::{open_in_place, seal_in_place};
 pub use lent::{card_open, card_seal};
+pub use packs::{Card, Cards, Pack, PackRefusal};
 pub use refusal::{NotARefusal, Refusal};
 #[doc(inline)]
 pub use slices::{blake2b, same};

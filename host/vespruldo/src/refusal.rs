@@ -1,4 +1,4 @@
-//! The refusals: those of document 01's table "What comes back", two of document
+//! The refusals: those of document 01's table "What comes back", four of document
 //! 02, and one of the tool `cards`.
 
 use core::error::Error;
@@ -10,9 +10,10 @@ use crate::archive::vespruldo_interface_1;
 macro_rules! refusals {
     ($($name:ident = $number:literal, $words:literal;)+) => {
         /// Why a call was refused, by its number: 1 to 11 are the rows of document
-        /// 01's table "What comes back", 12 and 15 are given for a card that is
-        /// not as long as it says, and 106 is that of the tool `cards`. Each
-        /// function says what the buffers lent to it hold then.
+        /// 01's table "What comes back", 12 to 15 are given for a lesson pack, 12
+        /// and 15 also for a card that is not as long as it says, and 106 is that
+        /// of the tool `cards`. Each function says what the buffers lent to it
+        /// hold then.
         ///
         /// A later version may have more of them, so a `match` needs a line for
         /// the others.
@@ -63,6 +64,8 @@ refusals! {
     BookForm = 10, "either key book badly formed";
     ClassMissing = 11, "neither book has an entry for the class";
     CutShort = 12, "cut short";
+    CountOrLength = 13, "count or length not allowed";
+    BadShuffle = 14, "bad shuffle";
     LeftOver = 15, "bytes left over";
     DrawerDamaged = 106, "drawer file damaged";
 }
@@ -88,8 +91,8 @@ impl Error for Refusal {}
 /// let status = 7_i32; // what `ExitStatus::code` has of a run of the tool `cards`
 /// assert_eq!(Refusal::try_from(status as u32), Ok(Refusal::WrongTag));
 ///
-/// let why = Refusal::try_from(13).unwrap_err();
-/// assert_eq!(why.to_string(), "13 is not a number of this library");
+/// let why = Refusal::try_from(99).unwrap_err();
+/// assert_eq!(why.to_string(), "99 is not a number of this library");
 /// let why = Refusal::try_from(0).unwrap_err();
 /// assert_eq!(why.to_string(), "0 is no refusal: it says that all was done");
 /// ```

@@ -14,6 +14,8 @@ pub const CARD_EXTRA: usize = 30;
 pub const CARD_TEXT_MAX: usize = 65_535;
 /// A drawer that is stored.
 pub const DRAWER_BYTES: usize = 44;
+/// A lesson pack that is not refused.
+pub const PACK_MAX: usize = 16_893;
 /// Associated data for sealing and opening.
 pub const DATA_MAX: usize = 65_536;
 /// Text for sealing, ChaCha20 and BLAKE2b; ciphertext for opening.

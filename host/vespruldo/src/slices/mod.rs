@@ -37,6 +37,7 @@ mod gift;
 mod hyena;
 mod in_place;
 mod lioness;
+mod pack;
 mod same;
 
 pub use blake::blake2b;
@@ -48,4 +49,5 @@ pub use gift::{gift_decipher, gift_encipher};
 pub use hyena::{open, open_short, seal, seal_short};
 pub use in_place::{open_in_place, seal_in_place};
 pub use lioness::{lioness_decipher, lioness_encipher};
+pub use pack::{pack_judge, pack_next};
 pub use same::same;
