@@ -10,6 +10,7 @@ use std::sync::Barrier;
 use std::thread;
 
 use common::books::{self, book, with_count};
+use common::packs::{compare_judges, compare_next, Lesson};
 use common::pairs::{self, judged, judged_card_open};
 use common::{
     times, up_to, with_flip, Guarded, Pair, CARD_EXTRA, LONGEST_BLOCK, LONGEST_CARD_TEXT,
@@ -49,32 +50,36 @@ enum Entry {
     DrawerStore,
     DrawerLoad,
     KeyFind,
+    PackNext,
+    PackJudge,
     Same,
 }
 
 /// Each entry point, how many of a thousand cases are its own, and the numbers
 /// that it answers.
-const ENTRIES: [(Entry, usize, &[u32]); 21] = [
-    (Entry::Seal, 55, &[0, 1, 2, 3, 4, 5, 6]),
-    (Entry::Open, 70, &[0, 1, 2, 3, 4, 5, 6, 7]),
+const ENTRIES: [(Entry, usize, &[u32]); 23] = [
+    (Entry::Seal, 50, &[0, 1, 2, 3, 4, 5, 6]),
+    (Entry::Open, 65, &[0, 1, 2, 3, 4, 5, 6, 7]),
     (Entry::SealShort, 40, &[0, 1, 2, 4, 5, 6]),
     (Entry::OpenShort, 50, &[0, 1, 2, 4, 5, 6, 7]),
-    (Entry::SealInPlace, 50, &[0, 1, 2, 3, 4, 5]),
-    (Entry::OpenInPlace, 60, &[0, 1, 2, 3, 4, 5, 7]),
-    (Entry::CardSeal, 50, &[0, 1, 2, 3, 4, 6]),
-    (Entry::CardOpen, 80, &[0, 1, 3, 6, 7, 12, 15]),
+    (Entry::SealInPlace, 45, &[0, 1, 2, 3, 4, 5]),
+    (Entry::OpenInPlace, 55, &[0, 1, 2, 3, 4, 5, 7]),
+    (Entry::CardSeal, 45, &[0, 1, 2, 3, 4, 6]),
+    (Entry::CardOpen, 75, &[0, 1, 3, 6, 7, 12, 15]),
     (Entry::GiftEncipher, 35, &[0, 1, 4]),
     (Entry::GiftDecipher, 35, &[0, 1, 4]),
-    (Entry::ChaCha20, 80, &[0, 1, 2, 4, 8]),
-    (Entry::Blake2b, 70, &[0, 1, 4, 6]),
-    (Entry::LionessEncipher, 45, &[0, 1, 2, 4]),
-    (Entry::LionessDecipher, 45, &[0, 1, 2, 4]),
+    (Entry::ChaCha20, 75, &[0, 1, 2, 4, 8]),
+    (Entry::Blake2b, 60, &[0, 1, 4, 6]),
+    (Entry::LionessEncipher, 40, &[0, 1, 2, 4]),
+    (Entry::LionessDecipher, 40, &[0, 1, 2, 4]),
     (Entry::DrawerStart, 15, &[0]),
-    (Entry::DrawerDraw, 40, &[0, 9]),
-    (Entry::DrawerIv, 40, &[0, 9]),
+    (Entry::DrawerDraw, 35, &[0, 9]),
+    (Entry::DrawerIv, 35, &[0, 9]),
     (Entry::DrawerStore, 25, &[0]),
     (Entry::DrawerLoad, 35, &[0, 106]),
     (Entry::KeyFind, 60, &[0, 10, 11]),
+    (Entry::PackNext, 40, &[0, 12, 13, 14, 15]),
+    (Entry::PackJudge, 25, &[0, 12, 13, 14, 15]),
     (Entry::Same, 20, &[0, 1]),
 ];
 
@@ -461,6 +466,29 @@ fn compare_lookups(random: &mut Random) -> u32 {
     found.number
 }
 
+/// Hands a lesson pack, in half of the cases a damaged one, to `compare`, which
+/// changes nothing there.
+fn compare_packs<T>(random: &mut Random, compare: impl FnOnce(&[u8]) -> T) -> T {
+    let lesson = Lesson::random(random);
+    let pack = if once_in(random, 2) {
+        lesson.damaged(random)
+    } else {
+        lesson.pack()
+    };
+    let mut lent = Guarded::holding(random, &pack);
+    let before = lent.clone();
+    let answer = compare(lent.lent());
+    assert!(lent == before, "the pack, or its guards");
+    answer
+}
+
+/// Both answer the same at a place, mostly one that a reader can come to.
+fn compare_cards(random: &mut Random) -> u32 {
+    let (near, any) = (up_to(random, 15), random.next_u64() as usize);
+    let place = one_of(random, &[near, near, near, near, any]);
+    compare_packs(random, |pack| compare_next(pack, place)).number
+}
+
 /// The pairs that a thread compares; ChaCha20's depends on where it starts.
 struct Pairs {
     seal: Pair<4, 2>,
@@ -523,6 +551,8 @@ impl Pairs {
             Entry::DrawerStore => compare_stores(random),
             Entry::DrawerLoad => compare_loads(random),
             Entry::KeyFind => compare_lookups(random),
+            Entry::PackNext => compare_cards(random),
+            Entry::PackJudge => compare_packs(random, compare_judges).number,
             Entry::Same => compare_comparisons(random),
         }
     }

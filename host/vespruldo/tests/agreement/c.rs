@@ -11,7 +11,7 @@ const PREFIX: &str = "vespruldo_";
 #[derive(Default)]
 pub struct Header {
     pub defined: Defined,
-    /// By their names in Rattle.
+    /// By their names as `Kind::Struct` has them.
     pub structs: Structs,
     pub functions: Functions,
     /// What the header has itself, and the archive has not.
@@ -204,13 +204,13 @@ fn words(mut body: Tokens) -> BTreeMap<String, String> {
     words
 }
 
-/// The name in Rattle of a struct with this name in C.
+/// The name in `Kind::Struct` of a struct with this name in C.
 fn struct_name(name: &str) -> String {
     let own = name.strip_prefix(PREFIX);
     camel_case(own.unwrap_or_else(|| panic!("not understood: the type {name}")))
 }
 
-/// The name in C of a struct with this name in Rattle.
+/// The name in C of a struct with this name in `Kind::Struct`.
 pub fn c_name(name: &str) -> String {
     PREFIX.to_string() + &snake_case(name)
 }

@@ -5,7 +5,7 @@ use std::fs;
 use std::mem::{align_of, offset_of, size_of};
 use std::path::{Path, PathBuf};
 
-use vespruldo::archive::{Drawer, Drawn, Found, Loaded, Stored};
+use vespruldo::archive::{Drawer, Drawn, Found, Loaded, PackCard, PackJudged, Stored};
 use vespruldo::Refusal;
 
 use crate::c::{c_name, Header};
@@ -105,6 +105,9 @@ pub fn layouts_in_rust() -> Layouts {
     all.extend(layouts!("vespruldo_stored", Stored, bytes));
     all.extend(layouts!("vespruldo_loaded", Loaded, number drawer));
     all.extend(layouts!("vespruldo_found", Found, number book offset));
+    let pack_card = layouts!("vespruldo_pack_card", PackCard, number kind start length bad next);
+    all.extend(pack_card);
+    all.extend(layouts!("vespruldo_pack_judged", PackJudged, number cards bad));
     all
 }
 

@@ -117,16 +117,29 @@ fn is_size(name: &str) -> bool {
         .any(|end| name.ends_with(end))
 }
 
-/// The header's numbers that are neither lengths nor the five others: what is
-/// answered where nothing is refused, the two books, version and interface.
+/// The header's numbers that are neither refusals nor lengths: what is answered
+/// where nothing is refused, the two books, and the kinds of a pack's cards.
+const CHOICES: [(&str, u64); 7] = [
+    ("DONE", 0),
+    ("THIS_TERM", 0),
+    ("LAST_TERM", 1),
+    ("NO_CARD", 0),
+    ("WORD", 1),
+    ("SONG", 2),
+    ("SHUFFLE", 3),
+];
+
+/// The header's numbers that are neither lengths nor choices, nor those of version
+/// and interface.
 fn refusals(header: &Header) -> impl Iterator<Item = (&str, u64)> {
-    let others = ["DONE", "THIS_TERM", "LAST_TERM", "VERSION", "INTERFACE"];
+    let is_choice = |name: &str| CHOICES.iter().any(|choice| choice.0 == name);
+    let is_other = move |name| is_choice(name) || ["VERSION", "INTERFACE"].contains(&name);
     let numbers = header
         .defined
         .numbers
         .iter()
         .map(|(name, number)| (name.as_str(), *number));
-    numbers.filter(move |(name, _)| !is_size(name) && !others.contains(&without_prefix(name)))
+    numbers.filter(move |(name, _)| !is_size(name) && !is_other(without_prefix(name)))
 }
 
 /// Lists what the archive that is linked exports.
@@ -157,15 +170,15 @@ fn all_declarations_agree() {
     let reported = sources.disagreements();
     assert!(reported.is_empty(), "{}", reported.join("\n\n"));
     let header = Header::of(&sources.header);
-    assert_eq!(header.functions.len(), 23);
-    assert_eq!(header.structs.len(), 6);
+    assert_eq!(header.functions.len(), 25);
+    assert_eq!(header.structs.len(), 8);
     let own = ["found_key", "no_book", "structs_are_not_packed", "words"];
     let own = own.map(|name| format!("vespruldo_{name}"));
     assert_eq!(header.own, BTreeSet::from(own));
-    // Document 01's table, and the two books as `Found` has them.
-    assert_eq!(header.number("DONE"), 0);
-    assert_eq!(header.number("THIS_TERM"), 0);
-    assert_eq!(header.number("LAST_TERM"), 1);
+    // As document 01's table, `Found` and `PackCard` have them.
+    for (name, number) in CHOICES {
+        assert_eq!(header.number(name), number, "{name}");
+    }
 }
 
 #[test]

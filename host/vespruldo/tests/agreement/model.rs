@@ -15,7 +15,7 @@ pub enum Kind {
     U64,
     Size,
     Bytes(u64),
-    /// By value; named as in Rattle.
+    /// By value; named as in C, but `SomeName` and without the prefix.
     Struct(String),
 }
 
@@ -33,7 +33,7 @@ pub type Functions = BTreeMap<String, Function>;
 pub type Structs = BTreeMap<String, Named>;
 
 /// Puts the buffers of C or Rust together. Each is a pointer and then a length
-/// named after it; no length stands alone.
+/// named after it; no length stands alone. Sizes with other names are numbers.
 pub fn with_buffers(parameters: Named) -> Named {
     let mut together = Named::new();
     let mut rest = parameters.into_iter();
@@ -43,7 +43,7 @@ pub fn with_buffers(parameters: Named) -> Named {
                 let length = Some((format!("{name}_len"), Kind::Size));
                 assert_eq!(rest.next(), length, "what follows the pointer {name}");
             }
-            Kind::Size => panic!("{name} is the length of no buffer"),
+            Kind::Size if name.ends_with("_len") => panic!("{name} is the length of no buffer"),
             _ => {}
         }
         together.push((name, kind));

@@ -49,9 +49,13 @@ fn kind(tokens: &mut Tokens) -> Kind {
         "u16" => Kind::U16,
         "u32" => Kind::U32,
         "u64" => Kind::U64,
+        "usize" => Kind::Size,
         name @ ("Drawer" | "Drawn" | "DrawnIv" | "Stored" | "Loaded" | "Found") => {
             Kind::Struct(name.to_string())
         }
+        // Elsewhere their names say that they are of packs.
+        "Told" => Kind::Struct("PackCard".to_string()),
+        "Judged" => Kind::Struct("PackJudged".to_string()),
         other => panic!("not understood: the type {other}"),
     }
 }

@@ -12,8 +12,7 @@ pub struct Archive {
     pub functions: Functions,
 }
 
-/// `Drawn<N>` is two structs elsewhere: each length, and the name it has in
-/// Rattle.
+/// `Drawn<N>` is two structs elsewhere: each length, and the name it has there.
 const DRAWN: [(&str, &str); 2] = [("12", "Drawn"), ("48", "DrawnIv")];
 
 impl Archive {
@@ -118,7 +117,9 @@ fn kind(tokens: &mut Tokens) -> Kind {
             let drawn = DRAWN.iter().find(|drawn| drawn.0 == len);
             Kind::Struct(drawn.expect("a length of Drawn").1.to_string())
         }
-        name @ ("Drawer" | "Stored" | "Loaded" | "Found") => Kind::Struct(name.to_string()),
+        name @ ("Drawer" | "Stored" | "Loaded" | "Found" | "PackCard" | "PackJudged") => {
+            Kind::Struct(name.to_string())
+        }
         other => panic!("not understood: the type {other}"),
     }
 }

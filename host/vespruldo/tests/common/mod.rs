@@ -5,6 +5,7 @@
 
 pub mod books;
 pub mod cards;
+pub mod packs;
 pub mod pairs;
 
 use std::env;
