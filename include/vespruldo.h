@@ -475,8 +475,8 @@ static inline const uint8_t *vespruldo_found_key(vespruldo_found found,
 
 /* What a reader of a lesson pack answers: a card, done, or a refusal. */
 typedef struct vespruldo_pack_card {
-    uint32_t number; /* VESPRULDO_DONE or the refusal */
-    uint32_t kind;   /* VESPRULDO_NO_CARD if there is no card any more */
+    uint32_t number; /* DONE or the refusal */
+    uint32_t kind;   /* NO_CARD if there is no card any more */
     size_t start;    /* of a card: where in the pack its bytes start */
     size_t length;   /* and how many they are, at least 1 */
     size_t bad;      /* of BAD_SHUFFLE: the place of the first bad entry */
@@ -490,7 +490,7 @@ typedef struct vespruldo_pack_card {
 
 /* What a lesson pack is as a whole. */
 typedef struct vespruldo_pack_judged {
-    uint32_t number; /* VESPRULDO_DONE or the refusal */
+    uint32_t number; /* DONE or the refusal */
     size_t cards;    /* how many cards the walk gives before it ends */
     size_t bad;      /* of BAD_SHUFFLE: the place of the first bad entry */
 } vespruldo_pack_judged;

@@ -2,7 +2,7 @@
 //! walks it card by card and plays the words in the shuffle's order. Damaged packs
 //! are refused, and nothing of them is played.
 
-use vespruldo::{Card, Pack, PackRefusal, Refusal};
+use vespruldo::{Pack, PackCard, PackRefusal, Refusal};
 
 /// Three words, a song, and the shuffle.
 const ANIMALS: &[u8] = b"\x03\x03cat\x04duck\x02ox\x01\x0c\0quack, quack\x03\x02\x00\x01";
@@ -25,9 +25,9 @@ fn play_pack(pack: Pack) -> Result<(), PackRefusal> {
     let mut words: [&[u8]; WORDS_MAX] = [&[]; WORDS_MAX];
     for (place, card) in pack.cards().enumerate() {
         match card? {
-            Card::Word(word) => words[place] = word,
-            Card::Song(song) => play("song", song),
-            Card::Shuffle(order) => {
+            PackCard::Word(word) => words[place] = word,
+            PackCard::Song(song) => play("song", song),
+            PackCard::Shuffle(order) => {
                 for &place in order {
                     play("word", words[usize::from(place)]);
                 }

@@ -46,15 +46,15 @@
 //! A lesson pack is judged, and then read card by card:
 //!
 //! ```
-//! use vespruldo::{Card, Pack};
+//! use vespruldo::{Pack, PackCard};
 //!
 //! let pack = Pack::new(b"\x02\x03cat\x02ox\x00\x02\x01\x00");
 //! pack.judge()?;
 //! for card in pack.cards() {
 //!     match card? {
-//!         Card::Word(word) => println!("{}", String::from_utf8_lossy(word)),
-//!         Card::Song(song) => println!("a song of {} bytes", song.len()),
-//!         Card::Shuffle(places) => println!("in the order {places:?}"),
+//!         PackCard::Word(word) => println!("{}", String::from_utf8_lossy(word)),
+//!         PackCard::Song(song) => println!("a song of {} bytes", song.len()),
+//!         PackCard::Shuffle(places) => println!("in the order {places:?}"),
 //!     }
 //! }
 //! # Ok::<(), vespruldo::PackRefusal>(())
@@ -141,7 +141,7 @@ pub use data::Data;
 pub use drawer::Drawer;
 pub use in_place::{open_in_place, seal_in_place};
 pub use lent::{card_open, card_seal};
-pub use packs::{Card, Cards, Pack, PackRefusal};
+pub use packs::{Pack, PackCard, PackCards, PackRefusal};
 pub use refusal::{NotARefusal, Refusal};
 #[doc(inline)]
 pub use slices::{blake2b, same};

@@ -17,15 +17,15 @@ use crate::slices;
 /// once.
 ///
 /// ```
-/// use vespruldo::{Card, Pack};
+/// use vespruldo::{PackCard, Pack};
 ///
 /// // One word, no song, and the shuffle.
 /// let pack = Pack::new(&[0x01, 0x03, 0x63, 0x61, 0x74, 0x00, 0x01, 0x00]);
 /// assert_eq!(pack.judge()?, 2);
 ///
 /// let mut cards = pack.cards();
-/// assert_eq!(cards.next(), Some(Ok(Card::Word(b"cat"))));
-/// assert_eq!(cards.next(), Some(Ok(Card::Shuffle(&[0]))));
+/// assert_eq!(cards.next(), Some(Ok(PackCard::Word(b"cat"))));
+/// assert_eq!(cards.next(), Some(Ok(PackCard::Shuffle(&[0]))));
 /// assert_eq!(cards.next(), None);
 /// # Ok::<(), vespruldo::PackRefusal>(())
 /// ```
@@ -34,7 +34,7 @@ use crate::slices;
 /// shall play a whole pack or nothing judges it first:
 ///
 /// ```
-/// use vespruldo::{Card, Pack, Refusal};
+/// use vespruldo::{PackCard, Pack, Refusal};
 ///
 /// // The shuffle has the second word twice.
 /// let pack = Pack::new(b"\x02\x03cat\x03dog\x00\x02\x01\x01");
@@ -46,8 +46,8 @@ use crate::slices;
 ///
 /// // Whoever does not judge has both words before the refusal comes.
 /// let mut cards = pack.cards();
-/// assert_eq!(cards.next(), Some(Ok(Card::Word(b"cat"))));
-/// assert_eq!(cards.next(), Some(Ok(Card::Word(b"dog"))));
+/// assert_eq!(cards.next(), Some(Ok(PackCard::Word(b"cat"))));
+/// assert_eq!(cards.next(), Some(Ok(PackCard::Word(b"dog"))));
 /// assert_eq!(cards.next(), Some(Err(refused)));
 /// assert_eq!(cards.next(), None);
 /// ```
@@ -85,8 +85,8 @@ impl<'a> Pack<'a> {
     /// A reader that gives the cards one by one: each word, the song if there is
     /// one, and the shuffle as one. Where [`judge`](Pack::judge) would refuse, it
     /// gives the cards before that, then the refusal, and then nothing more.
-    pub fn cards(self) -> Cards<'a> {
-        Cards {
+    pub fn cards(self) -> PackCards<'a> {
+        PackCards {
             pack: self.0,
             place: 0,
             ended: false,
@@ -97,7 +97,7 @@ impl<'a> Pack<'a> {
 /// A card of a lesson pack, with its bytes, which lie in the pack. (The cards that
 /// are sealed and opened are others.)
 #[derive(Clone, Copy, Debug, PartialEq, Eq)]
-pub enum Card<'a> {
+pub enum PackCard<'a> {
     /// A word, of 1 to 40 bytes.
     Word(&'a [u8]),
     /// The song, of 1 to 16,384 bytes.
@@ -106,12 +106,12 @@ pub enum Card<'a> {
     Shuffle(&'a [u8]),
 }
 
-impl<'a> Card<'a> {
+impl<'a> PackCard<'a> {
     /// The bytes, of whichever kind the card is.
     #[must_use]
     pub fn as_bytes(self) -> &'a [u8] {
         match self {
-            Card::Word(bytes) | Card::Song(bytes) | Card::Shuffle(bytes) => bytes,
+            PackCard::Word(bytes) | PackCard::Song(bytes) | PackCard::Shuffle(bytes) => bytes,
         }
     }
 }
@@ -120,7 +120,7 @@ impl<'a> Card<'a> {
 /// makes one.
 #[derive(Clone, Debug)]
 #[must_use = "a reader gives nothing unless it is asked"]
-pub struct Cards<'a> {
+pub struct PackCards<'a> {
     pack: &'a [u8],
     /// How many cards have been given.
     place: usize,
@@ -129,8 +129,8 @@ pub struct Cards<'a> {
     ended: bool,
 }
 
-impl<'a> Iterator for Cards<'a> {
-    type Item = Result<Card<'a>, PackRefusal>;
+impl<'a> Iterator for PackCards<'a> {
+    type Item = Result<PackCard<'a>, PackRefusal>;
 
     fn next(&mut self) -> Option<Self::Item> {
         if self.ended {
@@ -145,7 +145,7 @@ impl<'a> Iterator for Cards<'a> {
     }
 }
 
-impl FusedIterator for Cards<'_> {}
+impl FusedIterator for PackCards<'_> {}
 
 /// Why a lesson pack was refused, and where. `?` makes a [`Refusal`] of it where
 /// one is answered.
@@ -201,10 +201,10 @@ mod tests {
         // The reader borrows the bytes, and not the pack that made it.
         let cards = Pack::new(PACK).cards();
         let expected = [
-            Card::Word(b"cat"),
-            Card::Word(b"ox"),
-            Card::Song(b"la-a"),
-            Card::Shuffle(&[1, 0]),
+            PackCard::Word(b"cat"),
+            PackCard::Word(b"ox"),
+            PackCard::Song(b"la-a"),
+            PackCard::Shuffle(&[1, 0]),
         ];
         assert!(cards.clone().eq(expected.map(Ok)));
         for (card, place) in cards.zip([2, 6, 11, 16]) {

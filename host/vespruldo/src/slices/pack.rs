@@ -1,7 +1,7 @@
 //! The reader of lesson packs.
 
-use crate::archive::{PackCard, PackJudged};
-use crate::packs::{Card, PackRefusal};
+use crate::archive;
+use crate::packs::{PackCard, PackRefusal};
 use crate::refusal::{result_of, Refusal};
 
 /// What may be refused.
@@ -25,16 +25,16 @@ const PROMISED: [Refusal; 4] = [
 ///
 /// ```
 /// use vespruldo::slices::pack_next;
-/// use vespruldo::{Card, Refusal};
+/// use vespruldo::{PackCard, Refusal};
 ///
 /// let pack = [0x01, 0x03, 0x63, 0x61, 0x74, 0x00, 0x01, 0x00];
-/// assert_eq!(pack_next(&pack, 0), Ok(Some(Card::Word(b"cat"))));
-/// assert_eq!(pack_next(&pack, 1), Ok(Some(Card::Shuffle(&[0]))));
+/// assert_eq!(pack_next(&pack, 0), Ok(Some(PackCard::Word(b"cat"))));
+/// assert_eq!(pack_next(&pack, 1), Ok(Some(PackCard::Shuffle(&[0]))));
 /// assert_eq!(pack_next(&pack, 2), Ok(None));
 /// assert_eq!(pack_next(&pack, usize::MAX), Ok(None));
 ///
 /// // Its last byte is lost, and the word is given all the same.
-/// assert_eq!(pack_next(&pack[..7], 0), Ok(Some(Card::Word(b"cat"))));
+/// assert_eq!(pack_next(&pack[..7], 0), Ok(Some(PackCard::Word(b"cat"))));
 /// let refused = pack_next(&pack[..7], 1).unwrap_err();
 /// assert_eq!(refused.refusal, Refusal::CutShort);
 /// ```
@@ -46,7 +46,7 @@ const PROMISED: [Refusal; 4] = [
 /// its entries, is not wholly there, [`Refusal::CountOrLength`] if it is, and is
 /// not allowed, [`Refusal::BadShuffle`] if an entry repeats an earlier one or is
 /// too large, [`Refusal::LeftOver`] if there are bytes behind the shuffle.
-pub fn pack_next(pack: &[u8], place: usize) -> Result<Option<Card<'_>>, PackRefusal> {
+pub fn pack_next(pack: &[u8], place: usize) -> Result<Option<PackCard<'_>>, PackRefusal> {
     card_of(&call!(vespruldo_pack_next: pack; place;), pack)
 }
 
@@ -68,7 +68,7 @@ pub fn pack_next(pack: &[u8], place: usize) -> Result<Option<Card<'_>>, PackRefu
 ///
 /// As for [`pack_next`].
 pub fn pack_judge(pack: &[u8]) -> Result<usize, PackRefusal> {
-    let PackJudged { number, cards, bad } = call!(vespruldo_pack_judge: pack;);
+    let archive::PackJudged { number, cards, bad } = call!(vespruldo_pack_judge: pack;);
     result_after(cards, number, bad)?;
     Ok(cards)
 }
@@ -89,9 +89,12 @@ fn result_after(cards: usize, number: u32, bad: usize) -> Result<(), PackRefusal
 ///
 /// On an answer that the archive does not promise: any other bytes are no card of
 /// the pack.
-fn card_of<'a>(told: &PackCard, pack: &'a [u8]) -> Result<Option<Card<'a>>, PackRefusal> {
+fn card_of<'a>(
+    told: &archive::PackCard,
+    pack: &'a [u8],
+) -> Result<Option<PackCard<'a>>, PackRefusal> {
     result_after(told.next, told.number, told.bad)?;
-    let PackCard {
+    let archive::PackCard {
         kind,
         start,
         length,
@@ -100,9 +103,9 @@ fn card_of<'a>(told: &PackCard, pack: &'a [u8]) -> Result<Option<Card<'a>>, Pack
     let bytes = pack.get(*start..).and_then(|rest| rest.get(..*length));
     match (kind, bytes) {
         (0, _) => Ok(None),
-        (1, Some(bytes)) => Ok(Some(Card::Word(bytes))),
-        (2, Some(bytes)) => Ok(Some(Card::Song(bytes))),
-        (3, Some(bytes)) => Ok(Some(Card::Shuffle(bytes))),
+        (1, Some(bytes)) => Ok(Some(PackCard::Word(bytes))),
+        (2, Some(bytes)) => Ok(Some(PackCard::Song(bytes))),
+        (3, Some(bytes)) => Ok(Some(PackCard::Shuffle(bytes))),
         _ => panic!(
             "the archive answered kind {kind} and {length} bytes from {start} on, where no card \
              can be"
@@ -117,8 +120,8 @@ mod tests {
     const PACK: &[u8] = b"\x01\x03cat\0\x01\0";
 
     /// An answer with this number and card.
-    fn told(number: u32, kind: u32, start: usize, length: usize) -> PackCard {
-        PackCard {
+    fn told(number: u32, kind: u32, start: usize, length: usize) -> archive::PackCard {
+        archive::PackCard {
             number,
             kind,
             start,
@@ -129,17 +132,17 @@ mod tests {
     }
 
     /// What is made of a card of this kind.
-    fn card(kind: u32, start: usize, length: usize) -> Option<Card<'static>> {
+    fn card(kind: u32, start: usize, length: usize) -> Option<PackCard<'static>> {
         card_of(&told(0, kind, start, length), PACK).expect("no refusal")
     }
 
     #[test]
     fn cards_are_parts_of_the_pack() {
         assert_eq!(card(0, 0, 0), None);
-        assert_eq!(card(1, 2, 3), Some(Card::Word(b"cat")));
-        assert_eq!(card(2, 2, 3), Some(Card::Song(b"cat")));
-        assert_eq!(card(3, 7, 1), Some(Card::Shuffle(&[0])));
-        assert_eq!(card(1, 0, 8), Some(Card::Word(PACK)));
+        assert_eq!(card(1, 2, 3), Some(PackCard::Word(b"cat")));
+        assert_eq!(card(2, 2, 3), Some(PackCard::Song(b"cat")));
+        assert_eq!(card(3, 7, 1), Some(PackCard::Shuffle(&[0])));
+        assert_eq!(card(1, 0, 8), Some(PackCard::Word(PACK)));
     }
 
     #[test]

@@ -50,12 +50,8 @@ fn kind(tokens: &mut Tokens) -> Kind {
         "u32" => Kind::U32,
         "u64" => Kind::U64,
         "usize" => Kind::Size,
-        name @ ("Drawer" | "Drawn" | "DrawnIv" | "Stored" | "Loaded" | "Found") => {
-            Kind::Struct(name.to_string())
-        }
-        // Elsewhere their names say that they are of packs.
-        "Told" => Kind::Struct("PackCard".to_string()),
-        "Judged" => Kind::Struct("PackJudged".to_string()),
+        name @ ("Drawer" | "Drawn" | "DrawnIv" | "Stored" | "Loaded" | "Found" | "PackCard"
+        | "PackJudged") => Kind::Struct(name.to_string()),
         other => panic!("not understood: the type {other}"),
     }
 }

@@ -8,7 +8,7 @@ use second::random::Random;
 // The archive's functions themselves: the safe ones do not show what is answered
 // beside a refusal.
 use vespruldo::archive;
-use vespruldo::{slices, Card, Pack, PackRefusal};
+use vespruldo::{slices, Pack, PackCard, PackRefusal};
 
 use super::up_to;
 
@@ -69,7 +69,7 @@ fn refused(why: PackRefusal) -> Judged {
 
 /// What a typed answer at `place` is in numbers. A card's start is told by its
 /// address: the same bytes elsewhere are not that part of the pack.
-fn in_numbers(pack: &[u8], place: usize, answer: Result<Option<Card>, PackRefusal>) -> Answer {
+fn in_numbers(pack: &[u8], place: usize, answer: Result<Option<PackCard>, PackRefusal>) -> Answer {
     let card = match answer {
         Ok(Some(card)) => card,
         Ok(None) => return no_card(0, 0, place),
@@ -79,9 +79,9 @@ fn in_numbers(pack: &[u8], place: usize, answer: Result<Option<Card>, PackRefusa
         }
     };
     let (kind, bytes) = match card {
-        Card::Word(bytes) => (1, bytes),
-        Card::Song(bytes) => (2, bytes),
-        Card::Shuffle(bytes) => (3, bytes),
+        PackCard::Word(bytes) => (1, bytes),
+        PackCard::Song(bytes) => (2, bytes),
+        PackCard::Shuffle(bytes) => (3, bytes),
     };
     assert_eq!(card.as_bytes().as_ptr_range(), bytes.as_ptr_range());
     let [there, whole] = [bytes, pack].map(|bytes| bytes.as_ptr() as usize);
