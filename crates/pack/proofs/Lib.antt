@@ -1,5 +1,6 @@
 pub mod Steps
 pub mod Shuffles
+pub mod Places
 pub mod Cards
 pub mod Whole
 pub mod Demands

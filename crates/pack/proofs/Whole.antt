@@ -1,5 +1,5 @@
 -- A pack that is accepted is its items, one behind the other.
-use mathlib.Core.Path.{_≡_, refl, sym, ap, ap₂, _∙_}
+use mathlib.Core.Path.{_≡_, refl, sym, ap, ap₂, subst, _∙_}
 use mathlib.Core.Bool.{Bool, true, false, cond}
 use mathlib.Core.List.{List, [], _∷_, _++_, append-assoc}
 use Prim.Native.Nat.{ℕ, zero, suc, _+_, _*_, _≤_}
@@ -16,11 +16,12 @@ use Rattle.words.proofs.Lists.{length-part}
 use Rattle.pack.specs.Pack.{Reading, ends, gives, firstBad, words, songs, cardOf, numberAt}
 use Rattle.pack.specs.Pack.{item, many, counted, behind, shuffle, reading}
 use Rattle.pack.specs.Reader.{toldOf}
-use Rattle.pack.specs.Demands.{items, AllOf, Whole}
+use Rattle.pack.specs.Demands.{items, AllOf, Once, Whole}
 use Rattle.pack.specs.declared.Card.{Card}
 use Rattle.pack.specs.declared.Card.the-variants.{Shuffle, Done, Refused, BadShuffle}
 use Rattle.pack.specs.declared.items.Shape.{Shape}
 use Rattle.pack.proofs.Cards.{Allowed, item-has}
+use Rattle.pack.proofs.Places.{places-once}
 
 not-refused : (r : ℕ) → Refused r ≡ Done → ⊥
 not-refused r e = let z : _≡_ {A = ℕ} 0 1 = cc in omega arith
@@ -137,33 +138,38 @@ module _ (s : List ℕ) (h : Bytes s) where
     pub kind-is : toldOf card 0 .kind ≡ 3
     pub cards-are : r .cards ≡ card ∷ []
     pub bytes-are : drop at s ≡ items s 1 (card ∷ [])
+    pub places : Once n (part s (toldOf card 0 .start) (toldOf card 0 .length))
     pub ends-at : length s ≤ at + 1 + n
 
   shuffle-run : (n at : ℕ) → shuffle s n at .ending ≡ Done → Shuffled n at (shuffle s n at)
   unfolding shuffle toldOf
   shuffle-run n at =
       item-has s (λ r. r .ending ≡ Done → Shuffled n at r) at 1 true n n _ (λ r e. absurd (not-refused r e))
-      (λ a. let b = firstBad (part s (at + 1) (numberAt s at 1)) in by b (a .fits) (a .most-is) (ltb b (numberAt s at 1)))
+      (λ a. by (a .fits) (omega (arith, a .least-is, a .most-is)) (ltb (firstBad (part s (at + 1) (numberAt s at 1))) _)
+      refl)
     where
       over : (t : Bool) → cond t (Refused 15) Done ≡ Done → t ≡ false
       over true e = absurd (not-refused 15 e)
       over false e = refl
 
-      by : (b : ℕ) → let l = numberAt s at 1 in at + 1 + l ≤ length s → l ≤ n → (t : Bool)
+      by : let l = numberAt s at 1 in let b = firstBad (part s (at + 1) l) in
+          at + 1 + l ≤ length s → l ≡ n → (t : Bool) → ltb b l ≡ t
           → (cond t (ends (BadShuffle b)) (gives (Shuffle (at + 1) l) (behind s (at + 1 + l)))) .ending ≡ Done
           → Shuffled n at (cond t (ends (BadShuffle b)) (gives (Shuffle (at + 1) l) (behind s (at + 1 + l))))
-      by b fits most true e = absurd (not-bad b e)
-      by b fits most false e =
+      by fits en true et e = absurd (not-bad _ e)
+      by fits en false et e =
           let l = numberAt s at 1 in
+          let entries : length (part s (at + 1) l) ≡ l = length-part s (at + 1) l (omega arith) in
+          let none = ltb-false (firstBad (part s (at + 1) l)) l et in
           let short : length s ≤ at + 1 + l =
           ltb-false (at + 1 + l) (length s) (over (ltb (at + 1 + l) (length s)) e) in
-          let none : drop (at + 1 + l) s ≡ [] = drop-of-length-le s short in
           record {
             card = Shuffle (at + 1) l;
             kind-is = refl;
             cards-are = refl;
             bytes-are = item-bytes at 1 fits
-                ∙ ap (λ (t : List ℕ). bytes 1 l ++ (part s (at + 1) l ++ t)) none;
+                ∙ ap (λ (t : List ℕ). bytes 1 l ++ (part s (at + 1) l ++ t)) (drop-of-length-le s short);
+            places = places-once (part s (at + 1) l) (omega (arith, none, entries)) (entries ∙ en);
             ends-at = omega arith;
           }
 
@@ -186,5 +192,7 @@ module _ (s : List ℕ) (h : Bytes s) where
             (w .run .bytes-are ∙ ap (λ (t : List ℕ). items s 1 (w .run .passed) ++ t)
             (v .bytes-are ∙ ap₂ (λ (n : ℕ) (t : List ℕ). bytes 1 n ++ t) (sym (v .run .count-is))
             (v .run .bytes-are ∙ ap (λ (t : List ℕ). items s 2 (v .run .passed) ++ t) (z .bytes-are))));
+        places = subst (λ (n : ℕ). Once n (part s (toldOf (z .card) 0 .start) (toldOf (z .card) 0 .length)))
+            (sym (w .run .count-is)) (z .places);
         most = omega (arith, w .n-most, w .run .to-most, v .n-most, v .run .to-most, z .ends-at);
       }

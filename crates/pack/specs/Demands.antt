@@ -3,9 +3,10 @@ use mathlib.Core.Path.{_≡_}
 use Prim.Native.Nat.{ℕ, _+_, _<_, _≤_}
 use mathlib.Core.Bool.{true, false}
 use mathlib.Core.List.{List, [], _∷_, _++_}
-use lib.ListN.{length as List·length}
+use lib.ListN.{length as List·length, getD}
 use Rattle.words.specs.Block.{part}
 use Rattle.words.specs.Bytes.{Bytes, bytes}
+use Rattle.words.specs.Search.{placeOf}
 use Rattle.pack.specs.Pack.{reading, cardAt}
 use Rattle.pack.specs.Reader.{toldOf, isCard, readAt}
 use Rattle.pack.specs.declared.Card.{Card}
@@ -29,8 +30,14 @@ abbrev pub AllOf : ℕ → List Card → Type 0
 AllOf kind [] = Unit {0}
 AllOf kind (c ∷ cs) = (toldOf c 0 .kind ≡ kind) × AllOf kind cs
 
--- a pack that is accepted: its words, its songs and its shuffle, with nothing between them but counts and lengths; and
--- the most that these come to
+-- "every word's place from 0 once": of n words, as many entries, each place among them, and none of them twice
+pub record Once (n : ℕ) (entries : List ℕ) : Type 0 where
+  pub many : List·length entries ≡ n
+  pub every : (p : ℕ) → p < n → placeOf p entries < n
+  pub once : (i j : ℕ) → i < j → j < n → getD entries i 0 ≡ getD entries j 0 → ⊥
+
+-- a pack that is accepted: its words, its songs and its shuffle, with nothing between them but counts and lengths; what
+-- the shuffle says; and the most bytes that these come to
 pub record Whole (s : List ℕ) : Type 0 where
   pub words : List Card
   pub songs : List Card
@@ -39,6 +46,7 @@ pub record Whole (s : List ℕ) : Type 0 where
   pub cards : reading s .cards ≡ words ++ (songs ++ (shuffle ∷ []))
   pub is : s ≡ bytes 1 (List·length words) ++ (items s 1 words
       ++ (bytes 1 (List·length songs) ++ (items s 2 songs ++ items s 1 (shuffle ∷ []))))
+  pub places : Once (List·length words) (part s (startOf shuffle) (toldOf shuffle 0 .length))
   pub most : List·length s ≤ 16893
 
 pub record Demands (s : List ℕ) : Type 0 where
