@@ -1,18 +1,17 @@
 -- What the cards of a pack have in common, whatever its bytes.
 use mathlib.Core.Path.{_≡_, refl, sym, ap, subst⁻¹, _∙_}
 use mathlib.Core.Bool.{Bool, true, false, cond, true≢false}
-use mathlib.Core.List.{List, [], _∷_, _++_}
-use mathlib.Core.Logic.{_⊎_, inl, inr}
+use mathlib.Core.List.{List, [], _∷_}
+use mathlib.Core.Logic.{inl, inr}
 use Prim.Native.Nat.{ℕ, zero, suc, _+_, _-_, _<_, _≤_}
 use native.Mathlib.Decide.{decLe}
 use native.Mathlib.Omega.{arith}
 use types.Run.{OneOf}
 use denote.Enum.Declared.{tagOf}
-use lib.Dec.{eqb, ltb}
+use lib.Dec.{ltb}
 use lib.ListN.{length, getD, List·getD-eq-default}
-use borrow.Author.Tests.{eq-eqb, ne-eqb, eqb-true, eqb-false, ltb-false, lt-ltb, le-ltb}
 use Rattle.words.specs.Block.{part}
-use Rattle.answers.specs.Answers.{Row, numberOf}
+use Rattle.answers.specs.Answers.{numberOf}
 use Rattle.pack.specs.Pack.{Reading, ends, gives, answerAt, firstBad, words, songs, cardOf, numberAt, itemRows}
 use Rattle.pack.specs.Pack.{item, many, counted, behind, shuffle, reading, cardAt}
 use Rattle.pack.specs.Reader.{toldOf, isCard, readAt, judged}
@@ -21,8 +20,6 @@ use Rattle.pack.specs.declared.Card.{Card}
 use Rattle.pack.specs.declared.Card.the-variants.{Word, Song, Shuffle, Done, Refused, BadShuffle}
 use Rattle.pack.specs.declared.items.Shape.{Shape}
 use Rattle.pack.specs.declared.PackCard.{PackCard}
-use Rattle.pack.specs.declared.Read.{Read}
-use Rattle.pack.specs.declared.PackJudged.{PackJudged}
 use Rattle.pack.proofs.Steps.{item-goes, item-ends, item-whole, item-least, item-most}
 use Rattle.pack.proofs.Card as C
 
@@ -135,7 +132,8 @@ module _ (s : List ℕ) where
           card-is (k .song) (at + k .width) l,
           from,
           some,
-          lie-sooner (endOf c) (at + k .width + l) (many s k n (at + k .width + l) f .cards) (length s) (omega (arith, card-end (k .song) (at + k .width) l))
+          lie-sooner (endOf c) (at + k .width + l) (many s k n (at + k .width + l) f .cards) (length s) (omega
+              (arith, card-end (k .song) (at + k .width) l))
               (rest .lie),
         );
         few = omega (arith, rest .few);
@@ -234,7 +232,8 @@ module _ (s : List ℕ) (p : ℕ) where
   read-end ec e = rw (sym ec, e) refl
 
   -- where a walk that has passed all cards before p ends
-  pub judged-is : p ≤ length (reading s .cards) → isCard (cardAt s p) ≡ false → {t : PackCard} → t ≡ toldOf (cardAt s p) p
+  pub judged-is : p ≤ length (reading s .cards) → isCard (cardAt s p) ≡ false → {t : PackCard} → t ≡ toldOf
+      (cardAt s p) p
       → record { number = t .number; cards = p; bad = t .bad } ≡ judged s
   unfolding judged
   judged-is h e et =

@@ -14,7 +14,8 @@ use Rattle.pack.proofs.Whole.{whole}
 
 -- ---- cards that lie one behind the other
 
-lie-at : (from : ℕ) (cs : List Card) (to : ℕ) (e : Card) (p : ℕ) → Lie from cs to → p < length cs → let c = getD cs p e in
+lie-at : (from : ℕ) (cs : List Card) (to : ℕ) (e : Card) (p : ℕ) → Lie from cs to → p < length cs
+    → let c = getD cs p e in
     (from ≤ startOf c) × (startOf c < endOf c) × (endOf c ≤ to)
 lie-at from [] to e p l h = absurd (omega arith)
 lie-at from (c ∷ cs) to e zero l h = (l .1, l .2, lie-to (endOf c) cs to (l .3))

@@ -8,7 +8,6 @@ use Rattle.words.specs.Search.{placeOf}
 use Rattle.pack.specs.Pack.{Reading, ends, gives, answerAt, offends, firstFrom, item, many, counted, shuffle}
 use Rattle.pack.specs.Pack.{reading, cardAt}
 use Rattle.pack.specs.Reader.{told, toldOf, isCard, readAt, judged}
-use Rattle.pack.specs.declared.Card.{Card}
 use Rattle.pack.specs.declared.Card.the-variants.{Word, Song, Shuffle, Done, Refused, BadShuffle}
 use Rattle.pack.specs.declared.PackCard.{PackCard}
 use Rattle.pack.specs.declared.PackJudged.{PackJudged}

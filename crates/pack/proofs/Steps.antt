@@ -1,10 +1,10 @@
 -- The steps of the walk over items, as the code takes them.
 use mathlib.Core.Path.{_≡_, refl, sym, ap, _∙_}
 use mathlib.Core.Bool.{Bool, true, false, cond}
-use mathlib.Core.List.{List, [], _∷_}
+use mathlib.Core.List.{List}
 use Prim.Native.Nat.{ℕ, zero, suc, _+_, _-_, _^_, _<_, _≤_}
 use native.Mathlib.Omega.{arith}
-use lib.Dec.{eqb, ltb}
+use lib.Dec.{ltb}
 use lib.ListN.{length, take, drop}
 use native.Mathlib.Nat.{lt-of-lt-of-le, pow-le-pow-right}
 use native.Mathlib.Decide.{decLe}
@@ -13,8 +13,8 @@ use Rattle.words.specs.declared.Block.{Block}
 use Rattle.words.specs.Block.{halves, loaded, part}
 use Rattle.words.specs.Bytes.{Bytes}
 use Rattle.words.proofs.WordLists.{loaded-word, word-lt}
-use Rattle.answers.specs.Answers.{Row, numberOf}
-use Rattle.answers.proofs.Answers.{Clear, judged-clear}
+use Rattle.answers.specs.Answers.{numberOf}
+use Rattle.answers.proofs.Answers.{judged-clear}
 use Rattle.pack.specs.Pack.{Reading, ends, gives, answerAt, firstBad, words, songs, cardOf, numberAt, itemRows}
 use Rattle.pack.specs.Pack.{item, many, counted, behind, shuffle, reading, cardAt}
 use Rattle.pack.specs.declared.Card.{Card}
@@ -34,7 +34,8 @@ pub answer-first : (c : Card) (r : Reading) {place : ℕ} → place ≡ 0 → an
 unfolding answerAt
 answer-first c r e = rw e refl
 
-pub answer-next : (c : Card) (r : Reading) (place : ℕ) → (place ≡ 0 → ⊥) → answerAt (gives c r) place ≡ answerAt r (place - 1)
+pub answer-next : (c : Card) (r : Reading) (place : ℕ) → (place ≡ 0 → ⊥) → answerAt (gives c r) place ≡ answerAt r
+    (place - 1)
 unfolding answerAt
 answer-next c r zero h = absurd (h refl)
 answer-next c r (suc p) h = let e : suc p - 1 ≡ p = omega arith in rw e refl
@@ -128,7 +129,8 @@ module _ (s : List ℕ) (k : Shape) where
     unfolding settled reached
     pass-all e =
         record {
-          answers = λ f. sym (ap (λ (x : Reading). answerAt x here) (many-none n at (f count) e)) ∙ p .answers (f count);
+          answers = λ f. sym (ap (λ (x : Reading). answerAt x here) (many-none n at (f count) e)) ∙ p .answers
+              (f count);
           within = p .fits;
         }
 
@@ -141,7 +143,8 @@ module _ (s : List ℕ) (k : Shape) where
       pub pass-ends : (r ≡ 0 → ⊥) → Asked (Answer (Refused r))
       pass-ends h =
           found (λ f. sym (ap (λ (x : Reading). answerAt x here)
-          (many-next n at f some ∙ item-ends s at (k .width) true 1 (k .longest) er h _) ∙ answer-ends (Refused r) here))
+          (many-next n at f some ∙ item-ends s at (k .width) true 1 (k .longest) er h _) ∙ answer-ends
+          (Refused r) here))
 
       pub pass-fits : r ≡ 0 → at + k .width + l ≤ length s
       pass-fits e = omega (arith, el, item-whole s at (k .width) true 1 (k .longest) er e)
@@ -213,7 +216,8 @@ module _ (s : List ℕ) (words at place : ℕ) {r n : ℕ} (er : r ≡ numberOf 
 
     pub shuffle-bad : b < n → BadShuffle b ≡ answerAt (shuffle s words at) place
     shuffle-bad h =
-        sym (ap (λ (x : Reading). answerAt x place) (goes-to ∙ rw (lt-ltb b n h) refl) ∙ answer-ends (BadShuffle b) place)
+        sym (ap (λ (x : Reading). answerAt x place) (goes-to ∙ rw (lt-ltb b n h) refl) ∙ answer-ends
+        (BadShuffle b) place)
 
     module _ (h : n ≤ b) where
       good : shuffle s words at ≡ gives (Shuffle (at + 1) n) (behind s (at + 1 + n))
@@ -235,7 +239,8 @@ module _ {s : List ℕ} {stretch : (ℕ → ℕ → Reading) → Reading} {place
         → c ≡ answerAt (stretch f) place
     unfolding settled
     settles-answer f et ec =
-        ec ∙ ap (λ (x : Found). settled x (λ _ _. ends Done)) et ∙ sym (ap (λ (x : Found). settled x f) et) ∙ w .answers f
+        ec ∙ ap (λ (x : Found). settled x (λ _ _. ends Done)) et ∙ sym (ap (λ
+        (x : Found). settled x f) et) ∙ w .answers f
 
     settles-on : {n at p : ℕ} (f : ℕ → ℕ → Reading) → t ≡ On n at p → answerAt (f n at) p ≡ answerAt (stretch f) place
     unfolding settled
@@ -264,7 +269,8 @@ module _ {s : List ℕ} {place : ℕ} {k : Shape} {t : Found} (ek : k ≡ words)
     module _ {k′ : Shape} {t′ : Found} (ek′ : k′ ≡ songs) (w′ : Settles s (counted s k′ at) p t′) where
       rest : answerAt (counted s k′ at (λ _ at. shuffle s n at)) p ≡ cardAt s place
       rest =
-          ap (λ (x : Shape). answerAt (counted s x at (λ _ at. shuffle s n at)) p) ek′ ∙ settles-on w (after s) et ∙ whole
+          ap (λ (x : Shape). answerAt (counted s x at (λ _ at. shuffle s n at)) p) ek′ ∙ settles-on w
+          (after s) et ∙ whole
 
       pub songs-answer : {c d : Card} → t′ ≡ Answer d → c ≡ settled t′ (λ _ _. ends Done) → c ≡ cardAt s place
       songs-answer et′ ec = settles-answer w′ (λ _ at. shuffle s n at) et′ ec ∙ rest

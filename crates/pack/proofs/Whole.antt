@@ -6,7 +6,7 @@ use Prim.Native.Nat.{ℕ, zero, suc, _+_, _*_, _≤_}
 use native.Mathlib.Nat.{suc-mul}
 use native.Mathlib.Omega.{arith}
 use lib.Dec.{ltb}
-use lib.ListN.{length, take, drop, take-append-drop, drop-of-length-le}
+use lib.ListN.{length, drop, take-append-drop, drop-of-length-le}
 use lib.Seq.{drop-drop}
 use borrow.Author.Tests.{ltb-false}
 use Rattle.words.specs.Block.{part}
@@ -14,13 +14,13 @@ use Rattle.words.specs.Bytes.{Bytes, bytes}
 use Rattle.words.proofs.Bytes.{bytes-take, bytes-drop, bytes-number}
 use Rattle.words.proofs.Lists.{length-part}
 use Rattle.pack.specs.Pack.{Reading, ends, gives, firstBad, words, songs, cardOf, numberAt}
-use Rattle.pack.specs.Pack.{item, many, counted, behind, shuffle, reading}
+use Rattle.pack.specs.Pack.{many, counted, behind, shuffle, reading}
 use Rattle.pack.specs.Reader.{toldOf}
 use Rattle.pack.specs.Demands.{items, AllOf, Once, Whole}
 use Rattle.pack.specs.declared.Card.{Card}
 use Rattle.pack.specs.declared.Card.the-variants.{Shuffle, Done, Refused, BadShuffle}
 use Rattle.pack.specs.declared.items.Shape.{Shape}
-use Rattle.pack.proofs.Cards.{Allowed, item-has}
+use Rattle.pack.proofs.Cards.{item-has}
 use Rattle.pack.proofs.Places.{places-once}
 
 not-refused : (r : ℕ) → Refused r ≡ Done → ⊥

@@ -4,7 +4,8 @@ ghost use mathlib.Core.Bool.{cond};
 ghost use Prim.Native.Nat.{_≤_, _<_};
 ghost use lib.ListN.{length};
 ghost use Rattle.answers.specs.Answers.{numberOf};
-ghost use Rattle.pack.specs.Pack.{Reading, answerAt, firstBad, words as Pack·words, songs as Pack·songs, cardOf, numberAt, itemRows};
+ghost use Rattle.pack.specs.Pack.{answerAt, firstBad, words as Pack·words, songs as Pack·songs, cardOf};
+ghost use Rattle.pack.specs.Pack.{numberAt, itemRows};
 ghost use Rattle.pack.specs.Pack.{many as Pack·many, counted as Pack·counted, shuffle as Pack·shuffle};
 ghost use Rattle.pack.specs.Stretch.{Settles};
 use super::Card;
@@ -75,7 +76,8 @@ pub(crate) fn counted(pack: &[u8], kind: Shape, at: usize, place: usize) -> Foun
 // So many cards, one behind the other.
 fn many(pack: &[u8], kind: Shape, count: usize, at: usize, place: usize) -> Found
     requires { ⌜ (at ≤ length (now pack)) × (kind .width ≤ 2) ⌝ }
-    ensures { λ r. ⌜ Settles (now (pack .entry)) (λ follows. Pack·many (now (pack .entry)) kind count at (follows count)) place r ⌝ }
+    ensures { λ r. ⌜ Settles (now (pack .entry)) (λ follows. Pack·many (now (pack .entry)) kind count at (follows count))
+        place r ⌝ }
 {
     let mut left = count;
     let mut from = at;

@@ -1,4 +1,4 @@
-use mathlib.Core.Path.{_≡_, refl, sym, ap, _∙_}
+use mathlib.Core.Path.{sym, ap}
 use Rattle.pack.specs.Pack.{ends, answerAt}
 use Rattle.pack.specs.Stretch.{settled}
 use Rattle.pack.specs.declared.items.Found.{Found}

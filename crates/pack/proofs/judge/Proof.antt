@@ -7,7 +7,6 @@ use Rattle.pack.specs.Pack.{reading}
 use Rattle.pack.specs.Reader.{toldOf, isCard}
 use Rattle.pack.specs.declared.Card.{Card}
 use Rattle.pack.proofs.Cards.{card-key, end-key, card-place, judged-is}
-use borrow.Author.Needs.{needs}
 use Rattle.pack.proofs.judge.Statement.{statement}
 use Rattle.pack.proofs.judge.Tie as tie
 

@@ -1,5 +1,7 @@
--- `pack::reader_of` meets its contract: a walk of its MIR, by hand. A `Reader` is made of the slice passed and 0, in the result's local.
--- A `&[u8]` is Copy, so what it owns is had twice: once for src at exit, and once inside the result, beside the facts of at.
+-- `pack::reader_of` meets its contract: a walk of its MIR, by hand. A `Reader` is made of the slice passed and 0, in
+-- the result's local.
+-- A `&[u8]` is Copy, so what it owns is had twice: once for src at exit, and once inside the result, beside the facts
+-- of at.
 -- Assumes nothing.
 use mathlib.Core.Path.{refl}
 use Prim.Native.Nat.{ℕ}
@@ -19,7 +21,8 @@ use contract.Monad.{Fun}
 use contract.Running.{givenOf}
 use types.Kit.{Given, ‵, raw, _⊛_, _$_, _∵_, !, qed, by, move, use1, split, fsplit, fjoin, suffices, frame}
 use types.Part.{agg}
-use types.Run.{look, init, forget, stop, from, load, lit, and-then, no-more, assigns, returns, enter, alloc1, alloc0, params1, pass1, pass0, free1, free0}
+use types.Run.{look, init, forget, stop, from, load, lit, and-then, no-more, assigns, returns, enter, alloc1, alloc0}
+use types.Run.{params1, pass1, pass0, free1, free0}
 use denote.RattleType.{owns}
 use denote.Laws.{Is}
 use denote.Plain.{uint-makes}
@@ -44,7 +47,8 @@ use Rattle.pack.proofs.reader_of.Code as code
 abbrev stayed : Stays (reader-of.ended .signature .params) (reader-of.ended .kept)
 stayed = (stay-none-slice (0 ∷ []) tt (plain (λ _. u8)) yes, tt)
 
-module _ {M : Type 1} (𝓤 : URA M) (H : Heap 𝓤) (A : Atoms 𝓤) (W : Given 𝓤 H A) (mem : Memory → SProp 𝓤) (run : Routine → Fun 𝓤) (κ : Lft) (q : Share) (s : RefT (List ℕ)) where
+module _ {M : Type 1} (𝓤 : URA M) (H : Heap 𝓤) (A : Atoms 𝓤) (W : Given 𝓤 H A) (mem : Memory → SProp 𝓤)
+    (run : Routine → Fun 𝓤) (κ : Lft) (q : Share) (s : RefT (List ℕ)) where
   abbrev α : NamedLft
   α = namedLft 1 0 tt (κ, tt)
 
@@ -59,7 +63,16 @@ module _ {M : Type 1} (𝓤 : URA M) (H : Heap 𝓤) (A : Atoms 𝓤) (W : Given
   at = (v ∷ [], tt)
 
   abbrev Post : Val → SProp 𝓤
-  Post = walkOf 𝓤 H A reader-of.ended stayed (reader-of.clauses 𝓤 H A mem run) .post (((κ, tt), (q, tt), tt, (s, tt), at), tt)
+  Post = walkOf 𝓤 H A reader-of.ended stayed (reader-of.clauses 𝓤 H A mem run) .post (
+    (
+      (κ, tt),
+      (q, tt),
+      tt,
+      (s, tt),
+      at,
+    ),
+    tt,
+  )
 
   abbrev Own : Fml
   Own = ShrSlice (named 0) κ u8 .own s (v ∷ [])
@@ -67,23 +80,48 @@ module _ {M : Type 1} (𝓤 : URA M) (H : Heap 𝓤) (A : Atoms 𝓤) (W : Given
   exits : ent 𝓤 (onEntry 𝓤 H A reader-of.signature (κ, tt) (q, tt) (s, tt) at) (Post (T′.lowered made))
   exits =
       qed W ((‵ (flft κ q) ⊛ ‵ ftrue) ∷ ‵ (owns (ShrSlice (named 0) κ u8 ∷ []) (s, tt) at) ∷ []) ∵
-      suffices ! _ (ends-at 𝓤 H A reader-of.ended stayed (reader-of.clauses 𝓤 H A mem run) W (((κ, tt), (q, tt), tt, (s, tt), at), tt) (T′.lowered made) made (tt, tt) (tt, tt)) $ says ! refl $
-      frame ! $ fsplit ! $ use1 W (‵ Own ⊛ ‵ Own) (shr-slice-copy 𝓤 H A W (named 0) κ u8 .twice s (v ∷ [])) $ split ! $ move ! (0 ∷ 2 ∷ []) $ fjoin ! $ frame ! $
+      suffices ! _ (ends-at 𝓤 H A reader-of.ended stayed (reader-of.clauses 𝓤 H A mem run) W (
+        (
+          (κ, tt),
+          (q, tt),
+          tt,
+          (s, tt),
+          at,
+        ),
+        tt,
+      ) (T′.lowered made) made (tt, tt) (tt, tt)) $ says ! refl $
+      frame ! $ fsplit ! $ use1 W (‵ Own ⊛ ‵ Own) (shr-slice-copy 𝓤 H A W (named 0) κ u8 .twice s (v ∷ [])) $
+      split ! $ move ! (0 ∷ 2 ∷ []) $ fjoin ! $ frame ! $
       -- [what src owns]: what the fields own together, of it and of at's facts, is what the struct owns
-      nothing ! $ owned ! usize (Is usize) (uint-makes 𝓤 H A W w64) 0 _ (refl, lit< tt) $ fjoin ! $ move ! (1 ∷ 0 ∷ []) $ fjoin ! $ by ! (own-shut 𝓤 H A W (T.the-type α) (T′.the-laws α) (s, (0, tt)))
+      nothing ! $ owned ! usize (Is usize) (uint-makes 𝓤 H A W w64) 0 _ (refl, lit< tt) $ fjoin ! $
+      move ! (1 ∷ 0 ∷ []) $ fjoin ! $ by ! (own-shut 𝓤 H A W (T.the-type α) (T′.the-laws α) (s, (0, tt)))
 
   module _ (C : Calls 𝓤 H) (Λ : Loops 𝓤 H) where
-    walk : Is (ShrSlice (named 0) κ u8) s (v ∷ []) → ent 𝓤 (onEntry 𝓤 H A reader-of.signature (κ, tt) (q, tt) (s, tt) at) (WpFn 𝓤 H C Λ code.function (v ∷ []) Post)
+    walk : Is (ShrSlice (named 0) κ u8) s (v ∷ []) → ent 𝓤 (onEntry 𝓤 H A reader-of.signature (κ, tt) (q, tt)
+        (s, tt) at) (WpFn 𝓤 H C Λ code.function (v ∷ []) Post)
     walk p =
-        qed W (raw (onEntry 𝓤 H A reader-of.signature (κ, tt) (q, tt) (s, tt) at) ∷ []) ∵ enter ! C Λ code.function (v ∷ []) _ $
-        alloc1 ! (λ l₀. alloc1 ! (λ l₁. alloc0 ! $ params1 ! $ pass1 ! (init ! 0 refl (shr-slice-lawful 𝓤 H A W (named 0) κ u8 .typed s (v ∷ []) p .0)) $ pass0 ! $
-        assigns ! (agg ! (and-then ! (load ! (from ! (stop !)) (look ! 0 refl)) (and-then ! (lit ! tt) (no-more !)))) (from ! (stop !)) (init ! 2 refl (tt, (shr-slice-lawful 𝓤 H A W (named 0) κ u8 .typed s (v ∷ []) p .0 .1, (record { fits = lit< tt }, tt)))) $
-        returns ! (look ! 2 refl) $ forget ! 0 refl $ forget ! 2 refl $ move ! (2 ∷ 3 ∷ []) $ free1 ! $ free1 ! $ free0 ! $ by ! exits))
+        qed W (raw (onEntry 𝓤 H A reader-of.signature (κ, tt) (q, tt) (s, tt) at) ∷ []) ∵ enter ! C Λ code.function
+        (v ∷ []) _ $
+        alloc1 ! (λ l₀. alloc1 ! (λ l₁. alloc0 ! $ params1 ! $
+        pass1 ! (init ! 0 refl (shr-slice-lawful 𝓤 H A W (named 0) κ u8 .typed s (v ∷ []) p .0)) $ pass0 ! $
+        assigns ! (agg ! (and-then ! (load ! (from ! (stop !)) (look ! 0 refl)) (and-then ! (lit ! tt) (no-more !))))
+        (from ! (stop !)) (init ! 2 refl (
+          tt,
+          (
+            shr-slice-lawful 𝓤 H A W (named 0) κ u8 .typed s (v ∷ []) p .0 .1,
+            (record { fits = lit< tt }, tt),
+          ),
+        )) $
+        returns ! (look ! 2 refl) $ forget ! 0 refl $ forget ! 2 refl $ move ! (2 ∷ 3 ∷ []) $ free1 ! $ free1 ! $
+        free0 ! $ by ! exits))
 
 pub reader-of-spec : {M : Type 1} → stated.statement M
 unfolding code.routine
 reader-of-spec 𝓤 H 𝓜 𝓖 𝓡 =
     let W = givenOf 𝓤 H 𝓜 𝓖 in
-    by-walk 𝓤 H 𝓜 𝓖 𝓡 reader-of.ended stayed (reader-of.clauses 𝓤 H (𝓖 .A) (𝓜 .mem) (𝓡 .run)) code.env #reader-of code.function (code.unfolded 𝓤 H 𝓜 𝓡)
-    (goes-none-slice 𝓤 H (𝓖 .A) W 1 (0 ∷ []) tt (plain (λ _. u8)) yes, tt) (λ κs. (slice-vals, tt)) (λ κs. (shr-slice-tells (named 0) (κs .0) u8, tt)) (λ C. Unit {1}) tt
-    (λ C Λ fm known κs qs bounds a g are. via 𝓤 _ (fst∗ 𝓤 _ (emp 𝓤)) (walk 𝓤 H (𝓖 .A) W (𝓜 .mem) (𝓡 .run) (κs .0) (qs .0) (a .0) C Λ (are .0)))
+    by-walk 𝓤 H 𝓜 𝓖 𝓡 reader-of.ended stayed (reader-of.clauses 𝓤 H (𝓖 .A) (𝓜 .mem)
+    (𝓡 .run)) code.env #reader-of code.function (code.unfolded 𝓤 H 𝓜 𝓡)
+    (goes-none-slice 𝓤 H (𝓖 .A) W 1 (0 ∷ []) tt (plain (λ _. u8)) yes, tt) (λ κs. (slice-vals, tt)) (λ κs.
+    (shr-slice-tells (named 0) (κs .0) u8, tt)) (λ C. Unit {1}) tt
+    (λ C Λ fm known κs qs bounds a g are. via 𝓤 _ (fst∗ 𝓤 _ (emp 𝓤)) (walk 𝓤 H (𝓖 .A) W (𝓜 .mem) (𝓡 .run) (κs .0)
+    (qs .0) (a .0) C Λ (are .0)))

@@ -1,5 +1,4 @@
 use mathlib.Core.Path.{refl}
-use borrow.Author.Needs.{needs}
 use Rattle.pack.proofs.items.card_of.Statement.{statement}
 use Rattle.pack.proofs.items.card_of.Tie as tie
 

@@ -17,8 +17,11 @@ add-many c = search needs
 
 many-requires : tie.Need-many-requires
 many-requires c κs =
-    let d = c .before .before in
-    (count-fits _ (d .before .before .args .kind) _ 0 (d .item-at .ensures .0) (d .item-at .ensures .1) (omega arith), d .before .before .pre .1)
+    let d = c .before .before in (
+      count-fits _ (d .before .before .args .kind) _ 0 (d .item-at .ensures .0) (d .item-at .ensures .1)
+          (omega arith),
+      d .before .before .pre .1,
+    )
 
 returns-2 : tie.Need-returns-2
 returns-2 c =

@@ -1,5 +1,5 @@
-use mathlib.Core.Path.{_≡_, refl, sym, subst}
-use Prim.Native.Nat.{ℕ, _+_, _-_, _<_, _≤_}
+use mathlib.Core.Path.{_≡_}
+use Prim.Native.Nat.{_-_, _≤_}
 use native.Mathlib.Omega.{arith}
 use lib.ListN.{length, getD}
 use denote.Ref.{now}
@@ -7,7 +7,6 @@ use Rattle.words.specs.Search.{placeOf}
 use Rattle.words.proofs.Search.{place-more}
 use Rattle.pack.specs.Pack.{offends, firstFrom, firstBad}
 use Rattle.pack.proofs.Shuffles.{large, again, fine, bad-start, bad-none, bad-here, bad-next}
-use borrow.Author.Needs.{needs}
 use Rattle.pack.proofs.items.first_bad.Statement.{statement}
 use Rattle.pack.proofs.items.first_bad.Tie as tie
 

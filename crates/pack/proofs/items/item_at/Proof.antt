@@ -1,7 +1,5 @@
-use mathlib.Core.Path.{_≡_}
 use native.Mathlib.Omega.{arith}
 use denote.Ref.{now}
-use Rattle.words.specs.Bytes.{Bytes}
 use Rattle.pack.proofs.Steps.{number-small, cond-most, item-is}
 use borrow.Author.Needs.{needs}
 use Rattle.pack.proofs.items.item_at.Statement.{statement}
@@ -17,7 +15,8 @@ add-whole : tie.Need-add-whole
 add-whole c =
     let d = c .before in
     let a = d .before .before .args in
-    let small = number-small (now (a .pack)) (λ i. omega (arith, d .before .shared-slice-known .given i)) (a .at) (a .width)
+    let small = number-small (now (a .pack)) (λ i. omega (arith, d .before .shared-slice-known .given i)) (a .at)
+    (a .width)
     (d .before .before .pre .1) (d .load .ensures) in
     let most = cond-most (a .counts) (c .behind .ensures) in
     omega (arith, small, most, d .before .before .pre .1)

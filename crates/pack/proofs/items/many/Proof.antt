@@ -4,7 +4,6 @@ use native.Mathlib.Omega.{arith}
 use lib.ListN.{length}
 use denote.Ref.{now}
 use Rattle.pack.proofs.Steps.{Passing, pass-start, pass-all, pass-ends, pass-fits, pass-finds, pass-on}
-use borrow.Author.Needs.{needs}
 use Rattle.pack.proofs.items.many.Statement.{statement}
 use Rattle.pack.proofs.items.many.Tie as tie
 
