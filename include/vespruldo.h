@@ -525,11 +525,11 @@ typedef char vespruldo_structs_are_not_packed
    before what stands behind it has been looked at: whoever wants to play a
    whole pack or nothing judges it first.
 
-   Refusals, the first that is met from the left: CUT_SHORT (a count, a length
-   with its bytes, or the shuffle's count with its entries is not wholly there),
-   COUNT_OR_LENGTH (it is there, and the count or length is not allowed),
-   BAD_SHUFFLE (an entry repeats an earlier one or is too large), LEFT_OVER
-   (bytes behind the shuffle). What does not apply to an answer is 0. */
+   Refusals: CUT_SHORT (a count, a length with its bytes, or the shuffle's count
+   with its entries is not wholly there), COUNT_OR_LENGTH (it is there, and the
+   count or length is not allowed), BAD_SHUFFLE (an entry repeats an earlier one
+   or is too large), LEFT_OVER (bytes behind the shuffle). The first that is met
+   from the left is given. What does not apply to an answer is 0. */
 VESPRULDO_LOOK_AT_ANSWER
 VESPRULDO_READS(1, 2)
 vespruldo_pack_card vespruldo_pack_next(const uint8_t *pack, size_t pack_len,

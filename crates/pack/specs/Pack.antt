@@ -69,8 +69,7 @@ module _ (s : List ℕ) where
   abbrev pub numberAt : ℕ → ℕ → ℕ
   numberAt at width = number (part s at width)
 
-  -- "12 cut short, 13 count or length not allowed", "12 before 13 at one place": whether it is wholly there, then
-  -- whether its number is allowed
+  -- 12 "cut short" where it is not wholly there, 13 "count or length not allowed": "12 before 13 at one place"
   abbrev pub itemRows : ℕ → ℕ → Bool → ℕ → ℕ → List Row
   itemRows at width counts least most =
       let n = numberAt at width in
@@ -98,12 +97,12 @@ module _ (s : List ℕ) where
   unfoldable pub counted : Shape → ℕ → (ℕ → ℕ → Reading) → Reading
   counted k at follows = item at 1 false (k .least) (k .most) (λ n. many k n (at + 1) (follows n))
 
-  -- "After the last card comes done, each time, or 15", "bytes left over"
+  -- "After the last card comes done, each time, or 15": 15 "bytes left over"
   abbrev pub behind : ℕ → Reading
   behind at = ends (cond (ltb at (length s)) (Refused 15) Done)
 
   -- "A byte counts the shuffle's entries, as many as words; they follow, a byte each", "then the shuffle as one": a
-  -- card, or "14 bad shuffle"
+  -- card, or 14 "bad shuffle" with its place
   unfoldable pub shuffle : ℕ → ℕ → Reading
   shuffle words at =
       item at 1 true words words (λ n.

@@ -76,8 +76,8 @@ pub(crate) fn counted(pack: &[u8], kind: Shape, at: usize, place: usize) -> Foun
 // So many cards, one behind the other.
 fn many(pack: &[u8], kind: Shape, count: usize, at: usize, place: usize) -> Found
     requires { ⌜ (at ≤ length (now pack)) × (kind .width ≤ 2) ⌝ }
-    ensures { λ r. ⌜ Settles (now (pack .entry)) (λ follows. Pack·many (now (pack .entry)) kind count at (follows count))
-        place r ⌝ }
+    ensures { λ r. ⌜ Settles (now (pack .entry)) (λ follows. Pack·many (now (pack .entry)) kind count at
+        (follows count)) place r ⌝ }
 {
     let mut left = count;
     let mut from = at;

@@ -87,7 +87,7 @@ pub fn read_at(pack: &[u8], place: usize) -> Read
     }
 }
 
-// The same as C has it.
+// The same as C has it: the document's number, and its values for each kind of answer.
 pub fn told_at(pack: &[u8], place: usize) -> PackCard
     ensures { λ r. ⌜ r ≡ told (readAt (now (pack .entry)) place) ⌝ }
 {
@@ -96,7 +96,7 @@ pub fn told_at(pack: &[u8], place: usize) -> PackCard
     told_of(card, read.next)
 }
 
-// Walks the whole pack.
+// Walks the whole pack: what the walk ends with, and how many cards come before that.
 pub fn judge(pack: &[u8]) -> PackJudged
     ensures { λ r. ⌜ r ≡ judged (now (pack .entry)) ⌝ }
 {
