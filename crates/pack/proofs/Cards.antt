@@ -2,12 +2,9 @@
 use mathlib.Core.Path.{_≡_, refl, sym, ap, subst⁻¹, _∙_}
 use mathlib.Core.Bool.{Bool, true, false, cond, true≢false}
 use mathlib.Core.List.{List, [], _∷_}
-use mathlib.Core.Logic.{inl, inr}
 use Prim.Native.Nat.{ℕ, zero, suc, _+_, _-_, _<_, _≤_}
 use native.Mathlib.Decide.{decLe}
 use native.Mathlib.Omega.{arith}
-use types.Run.{OneOf}
-use denote.Enum.Declared.{tagOf}
 use lib.Dec.{ltb}
 use lib.ListN.{length, getD, List·getD-eq-default}
 use Rattle.words.specs.Block.{part}
@@ -17,36 +14,9 @@ use Rattle.pack.specs.Pack.{item, many, counted, behind, shuffle, readin
 use Rattle.pack.specs.Reader.{toldOf, isCard, readAt, judged}
 use Rattle.pack.specs.Demands.{startOf, endOf}
 use Rattle.pack.specs.declared.Card.{Card}
-use Rattle.pack.specs.declared.Card.the-variants.{Word, Song, Shuffle, Done, Refused, BadShuffle}
+use Rattle.pack.specs.declared.Card.the-variants.{Shuffle, Done, Refused, BadShuffle}
 use Rattle.pack.specs.declared.items.Shape.{Shape}
-use Rattle.pack.specs.declared.PackCard.{PackCard}
 use Rattle.pack.proofs.Steps.{item-goes, item-ends, item-whole, item-least, item-most}
-use Rattle.pack.proofs.Card as C
-
--- ---- which variants are cards
-
-out-of-three : (a b c x : ℕ) → OneOf (a ∷ b ∷ c ∷ []) x → (x ≡ a → ⊥) → (x ≡ b → ⊥) → (x ≡ c → ⊥) → ⊥
-out-of-three a b c x (inl e) f g h = f e
-out-of-three a b c x (inr (inl e)) f g h = g e
-out-of-three a b c x (inr (inr e)) f g h = h e
-
-pub card-key : (c : Card) → OneOf (0 ∷ 1 ∷ 2 ∷ []) (tagOf C.the-type c) → isCard c ≡ true
-unfolding isCard
-card-key (Word a n) h = refl
-card-key (Song a n) h = refl
-card-key (Shuffle a n) h = refl
-card-key Done h = absurd (out-of-three 0 1 2 3 h (λ e. omega arith) (λ e. omega arith) (λ e. omega arith))
-card-key (Refused r) h = absurd (out-of-three 0 1 2 4 h (λ e. omega arith) (λ e. omega arith) (λ e. omega arith))
-card-key (BadShuffle i) h = absurd (out-of-three 0 1 2 5 h (λ e. omega arith) (λ e. omega arith) (λ e. omega arith))
-
-pub end-key : (c : Card) → OneOf (3 ∷ 4 ∷ 5 ∷ []) (tagOf C.the-type c) → isCard c ≡ false
-unfolding isCard
-end-key (Word a n) h = absurd (out-of-three 3 4 5 0 h (λ e. omega arith) (λ e. omega arith) (λ e. omega arith))
-end-key (Song a n) h = absurd (out-of-three 3 4 5 1 h (λ e. omega arith) (λ e. omega arith) (λ e. omega arith))
-end-key (Shuffle a n) h = absurd (out-of-three 3 4 5 2 h (λ e. omega arith) (λ e. omega arith) (λ e. omega arith))
-end-key Done h = refl
-end-key (Refused r) h = refl
-end-key (BadShuffle i) h = refl
 
 -- ---- cards that lie one behind the other, from a place on
 
@@ -232,14 +202,15 @@ module _ (s : List ℕ) (p : ℕ) where
   read-end ec e = rw (sym ec, e) refl
 
   -- where a walk that has passed all cards before p ends
-  pub judged-is : p ≤ length (reading s .cards) → isCard (cardAt s p) ≡ false → {t : PackCard} → t ≡ toldOf
-      (cardAt s p) p
-      → record { number = t .number; cards = p; bad = t .bad } ≡ judged s
+  pub judged-is : p ≤ length (reading s .cards) → {c : Card} {number bad : ℕ} → c ≡ cardAt s p → isCard c ≡ false
+      → number ≡ toldOf c 0 .number → bad ≡ toldOf c 0 .bad
+      → record { number = number; cards = p; bad = bad } ≡ judged s
   unfolding judged
-  judged-is h e et =
-      let k : p ≡ length (reading s .cards) = omega (arith, end-place e) in
-      rw (et, end-is e) (ap (λ (n : ℕ). record {
-        number = toldOf (reading s .ending) n .number;
+  judged-is h {c} ec e en eb =
+      let e′ : isCard (cardAt s p) ≡ false = sym (ap isCard ec) ∙ e in
+      let k : p ≡ length (reading s .cards) = omega (arith, end-place e′) in
+      rw (en, eb, ec, end-is e′) (ap (λ (n : ℕ). record {
+        number = toldOf (reading s .ending) 0 .number;
         cards = n;
-        bad = toldOf (reading s .ending) n .bad;
+        bad = toldOf (reading s .ending) 0 .bad;
       }) k)

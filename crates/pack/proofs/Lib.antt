@@ -1,6 +1,7 @@
 pub mod Steps
 pub mod Shuffles
 pub mod Places
+pub mod Told
 pub mod Cards
 pub mod Whole
 pub mod Demands

@@ -60,6 +60,5 @@ Moves c r r′ = record { card = c; reader = r′ } ≡ moved r
 unfoldable pub judged : List ℕ → PackJudged
 judged s =
     let r = reading s in
-    let n = List·length (r .cards) in
-    let t = toldOf (r .ending) n in
-    record { number = t .number; cards = n; bad = t .bad }
+    let t = toldOf (r .ending) 0 in
+    record { number = t .number; cards = List·length (r .cards); bad = t .bad }

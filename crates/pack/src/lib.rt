@@ -104,11 +104,10 @@ pub fn judge(pack: &[u8]) -> PackJudged
     loop {
         let card = card_at(pack, place);
         let (Card::Word { .. } | Card::Song { .. } | Card::Shuffle { .. }) = card else {
-            let told = told_of(card, place);
             return PackJudged {
-                number: told.number,
+                number: number_of(card),
                 cards: place,
-                bad: told.bad,
+                bad: bad_of(card),
             };
         };
         place += 1;
@@ -145,26 +144,26 @@ fn answer(found: Found) -> Card
     }
 }
 
-// The document's number and values for each case.
+// The document's number and values for each case. Six cases in one match would become a table of places to jump to.
 fn told_of(card: Card, next: usize) -> PackCard
     ensures { λ r. ⌜ r ≡ toldOf card next ⌝ }
 {
-    match card {
-        Card::Word { start, length } => given(1, start, length, next),
-        Card::Song { start, length } => given(2, start, length, next),
-        Card::Shuffle { start, length } => given(3, start, length, next),
-        Card::Done => ended(0, 0, next),
-        Card::Refused(number) => ended(number, 0, next),
-        Card::BadShuffle(bad) => ended(14, bad, next),
-    }
-}
-
-fn given(kind: u32, start: usize, length: usize, next: usize) -> PackCard
-    ensures { λ r. ⌜ r ≡ record { number = 0; kind = kind; start = start; length = length; bad = 0; next = next } ⌝ }
-{
+    let (Card::Word { start, length }
+    | Card::Song { start, length }
+    | Card::Shuffle { start, length }) = card
+    else {
+        return PackCard {
+            number: number_of(card),
+            kind: 0,
+            start: 0,
+            length: 0,
+            bad: bad_of(card),
+            next: next,
+        };
+    };
     PackCard {
         number: 0,
-        kind: kind,
+        kind: kind_of(card),
         start: start,
         length: length,
         bad: 0,
@@ -172,15 +171,32 @@ fn given(kind: u32, start: usize, length: usize, next: usize) -> PackCard
     }
 }
 
-fn ended(number: u32, bad: usize, next: usize) -> PackCard
-    ensures { λ r. ⌜ r ≡ record { number = number; kind = 0; start = 0; length = 0; bad = bad; next = next } ⌝ }
+fn number_of(card: Card) -> u32
+    ensures { λ r. ⌜ r ≡ toldOf card 0 .number ⌝ }
 {
-    PackCard {
-        number: number,
-        kind: 0,
-        start: 0,
-        length: 0,
-        bad: bad,
-        next: next,
+    match card {
+        Card::Refused(number) => number,
+        Card::BadShuffle(_) => 14,
+        _ => 0,
+    }
+}
+
+fn kind_of(card: Card) -> u32
+    ensures { λ r. ⌜ r ≡ toldOf card 0 .kind ⌝ }
+{
+    match card {
+        Card::Word { .. } => 1,
+        Card::Song { .. } => 2,
+        Card::Shuffle { .. } => 3,
+        _ => 0,
+    }
+}
+
+fn bad_of(card: Card) -> usize
+    ensures { λ r. ⌜ r ≡ toldOf card 0 .bad ⌝ }
+{
+    match card {
+        Card::BadShuffle(bad) => bad,
+        _ => 0,
     }
 }

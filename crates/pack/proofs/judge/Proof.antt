@@ -4,9 +4,9 @@ use native.Mathlib.Omega.{arith}
 use lib.ListN.{length}
 use denote.Ref.{now}
 use Rattle.pack.specs.Pack.{reading}
-use Rattle.pack.specs.Reader.{toldOf, isCard}
-use Rattle.pack.specs.declared.Card.{Card}
-use Rattle.pack.proofs.Cards.{card-key, end-key, card-place, judged-is}
+use Rattle.pack.specs.Reader.{isCard}
+use Rattle.pack.proofs.Cards.{card-place, judged-is}
+use Rattle.pack.proofs.Told.{card-key, end-key}
 use Rattle.pack.proofs.judge.Statement.{statement}
 use Rattle.pack.proofs.judge.Tie as tie
 
@@ -22,17 +22,19 @@ loop-holds c = omega arith
 card-at-requires : tie.Need-card-at-requires Inv-loop μ-loop
 card-at-requires c κs = tt
 
-told-of-requires : tie.Need-told-of-requires Inv-loop μ-loop
-told-of-requires c κs = tt
+number-of-requires : tie.Need-number-of-requires Inv-loop μ-loop
+number-of-requires c κs = tt
+
+bad-of-requires : tie.Need-bad-of-requires Inv-loop μ-loop
+bad-of-requires c κs = tt
 
 returns : tie.Need-returns Inv-loop μ-loop
 returns c =
-    let d = c .before .before in
+    let m = c .before .before in
+    let d = m .before in
     let a = d .before .before .before .args in
-    let p = d .before .loop .place in
-    judged-is (now (a .pack)) p (d .before .loop .inv)
-    (sym (ap isCard (d .card-at .ensures)) ∙ end-key _ (c .before .match .keys2)) {t = c .told-of .result}
-    (c .told-of .ensures ∙ ap (λ (k : Card). toldOf k p) (d .card-at .ensures))
+    judged-is (now (a .pack)) (d .before .loop .place) (d .before .loop .inv) (d .card-at .ensures)
+    (end-key _ (m .match .keys2)) (c .before .number-of .ensures) (c .bad-of .ensures)
 
 -- a card is given at a place before the last
 placed : (c : tie.At-match-keys1 Inv-loop μ-loop) → let p = c .before .before .loop .place in
@@ -59,7 +61,8 @@ judge-spec =
     μ-loop
     loop-holds
     card-at-requires
-    told-of-requires
+    number-of-requires
+    bad-of-requires
     returns
     add-place
     loop-less

@@ -2,7 +2,8 @@ use native.Mathlib.Omega.{arith}
 use mathlib.Core.Path.{ap, sym, _∙_}
 use denote.Ref.{now}
 use Rattle.pack.specs.Reader.{isCard}
-use Rattle.pack.proofs.Cards.{card-key, end-key, card-place, read-card, read-end}
+use Rattle.pack.proofs.Cards.{card-place, read-card, read-end}
+use Rattle.pack.proofs.Told.{card-key, end-key}
 use borrow.Author.Needs.{needs}
 use Rattle.pack.proofs.read_at.Statement.{statement}
 use Rattle.pack.proofs.read_at.Tie as tie
