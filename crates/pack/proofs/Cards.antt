@@ -28,23 +28,38 @@ lie-sooner : (a b : ℕ) (cs : List Card) (to : ℕ) → a ≤ b → Lie b cs to
 lie-sooner a b [] to h l = omega arith
 lie-sooner a b (c ∷ cs) to h l = (l .0, omega (arith, l .1), l .2, l .3)
 
--- at most n cards from a place on, and what ends them is none
+-- what is no card, and is done if its number is 0
+abbrev pub Ends : Card → Type 0
+Ends c = (isCard c ≡ false) × (toldOf c 0 .number ≡ 0 → c ≡ Done)
+
+refused-ends : (r : ℕ) → (r ≡ 0 → ⊥) → Ends (Refused r)
+unfolding isCard toldOf
+refused-ends r h = (refl, λ e. absurd (h e))
+
+bad-ends : (i : ℕ) → Ends (BadShuffle i)
+unfolding isCard toldOf
+bad-ends i = (refl, λ e. absurd (omega arith))
+
+done-ends : Ends Done
+unfolding isCard
+done-ends = (refl, λ e. refl)
+
+-- at most n cards from a place on, then what is none
 pub record Sound (s : List ℕ) (n from : ℕ) (r : Reading) : Type 0 where
   pub lie : Lie from (r .cards) (length s)
   pub few : length (r .cards) ≤ n
-  pub ended : isCard (r .ending) ≡ false
+  pub ended : Ends (r .ending)
 
 module _ (s : List ℕ) where
   sooner : (m n a b : ℕ) (r : Reading) → m ≤ n → a ≤ b → Sound s m b r → Sound s n a r
   sooner m n a b r hm h d =
       record { lie = lie-sooner a b (r .cards) (length s) h (d .lie); few = omega (arith, d .few); ended = d .ended }
 
-  ends-sound : (n at : ℕ) (c : Card) → at ≤ length s → isCard c ≡ false → Sound s n at (ends c)
+  ends-sound : (n at : ℕ) (c : Card) → at ≤ length s → Ends c → Sound s n at (ends c)
   ends-sound n at c h e = record { lie = h; few = omega arith; ended = e }
 
-  refused-sound : (n at r : ℕ) → at ≤ length s → Sound s n at (ends (Refused r))
-  unfolding isCard
-  refused-sound n at r h = ends-sound n at (Refused r) h refl
+  refused-sound : (n at r : ℕ) → at ≤ length s → (r ≡ 0 → ⊥) → Sound s n at (ends (Refused r))
+  refused-sound n at r h e = ends-sound n at (Refused r) h (refused-ends r e)
 
   -- an item that is not refused is wholly there and allowed
   pub record Allowed (at width : ℕ) (counts : Bool) (least most : ℕ) : Type 0 where
@@ -53,7 +68,7 @@ module _ (s : List ℕ) where
     pub most-is : numberAt s at width ≤ most
 
   pub item-has : (P : Reading → Type 0) (at width : ℕ) (counts : Bool) (least most : ℕ) (f : ℕ → Reading)
-      → ((r : ℕ) → P (ends (Refused r))) → (Allowed at width counts least most → P (f (numberAt s at width)))
+      → ((r : ℕ) → (r ≡ 0 → ⊥) → P (ends (Refused r))) → (Allowed at width counts least most → P (f (numberAt s at width)))
       → P (item s at width counts least most f)
   item-has P at width counts least most f ended goes =
       by (numberOf (itemRows s at width counts least most)) refl
@@ -66,7 +81,7 @@ module _ (s : List ℕ) where
             least-is = item-least s at width counts least most e refl;
             most-is = item-most s at width counts least most e refl;
           }))
-      by (suc r) e = subst⁻¹ P (item-ends s at width counts least most e (λ z. omega arith) f) (ended (suc r))
+      by (suc r) e = subst⁻¹ P (item-ends s at width counts least most e (λ z. omega arith) f) (ended (suc r) (λ z. omega arith))
 
   card-start : (song : Bool) (a n : ℕ) → startOf (cardOf song a n) ≡ a
   unfolding toldOf
@@ -127,8 +142,8 @@ module _ (s : List ℕ) where
   behind-sound at h = by (ltb at (length s))
     where
       by : (t : Bool) → Sound s 0 at (ends (cond t (Refused 15) Done))
-      by true = ends-sound 0 at (Refused 15) h refl
-      by false = ends-sound 0 at Done h refl
+      by true = ends-sound 0 at (Refused 15) h (refused-ends 15 (λ e. omega arith))
+      by false = ends-sound 0 at Done h done-ends
 
   shuffle-sound : (n at : ℕ) → 1 ≤ n → at ≤ length s → Sound s 1 at (shuffle s n at)
   unfolding shuffle isCard toldOf
@@ -139,7 +154,7 @@ module _ (s : List ℕ) where
     where
       by : (l b : ℕ) → at + 1 + l ≤ length s → 1 ≤ l → (t : Bool)
           → Sound s 1 at (cond t (ends (BadShuffle b)) (gives (Shuffle (at + 1) l) (behind s (at + 1 + l))))
-      by l b fits one true = ends-sound 1 at (BadShuffle b) h refl
+      by l b fits one true = ends-sound 1 at (BadShuffle b) h (bad-ends b)
       by l b fits one false =
           let rest = behind-sound (at + 1 + l) fits in
           record {
@@ -165,7 +180,7 @@ module _ (r : Reading) where
   pub before : {s : List ℕ} {n from p : ℕ} → Sound s n from r → isCard (answerAt r p) ≡ true → p < length (r .cards)
   before {p = p} d e =
       elim (decLe (length (r .cards)) p) [
-        | yes h ↦ absurd (true≢false (sym e ∙ ap isCard (past p h) ∙ d .ended))
+        | yes h ↦ absurd (true≢false (sym e ∙ ap isCard (past p h) ∙ d .ended .0))
         | no h ↦ omega arith
       ]
 
@@ -180,13 +195,15 @@ module _ (s : List ℕ) (p : ℕ) where
   unfolding cardAt
   card-place e = let h = before (reading s) (sound s) e in (h, omega (arith, sound s .few))
 
-  pub end-place : isCard (cardAt s p) ≡ false → length (reading s .cards) ≤ p
+  pub card-before : p < length (reading s .cards) → isCard (cardAt s p) ≡ true
   unfolding cardAt answerAt
+  card-before h = card-in 0 (reading s .cards) (length s) (reading s .ending) p (sound s .lie) h
+
+  pub end-place : isCard (cardAt s p) ≡ false → length (reading s .cards) ≤ p
   end-place e =
       elim (decLe (length (reading s .cards)) p) [
         | yes h ↦ h
-        | no h ↦ absurd (true≢false
-            (sym (card-in 0 (reading s .cards) (length s) (reading s .ending) p (sound s .lie) (omega arith)) ∙ e))
+        | no h ↦ absurd (true≢false (sym (card-before (omega arith)) ∙ e))
       ]
 
   pub end-is : isCard (cardAt s p) ≡ false → cardAt s p ≡ reading s .ending

@@ -2,14 +2,17 @@
 use mathlib.Core.Path.{_≡_, refl, sym, ap, _∙_}
 use mathlib.Core.Bool.{true, false}
 use mathlib.Core.List.{List, [], _∷_}
-use Prim.Native.Nat.{ℕ, zero, suc, _+_, _<_, _≤_}
+use Prim.Native.Nat.{ℕ, zero, suc, _+_, _<_, _≤_, min}
+use native.Mathlib.Decide.{decLe}
 use native.Mathlib.Omega.{arith}
 use lib.ListN.{length, getD}
 use Rattle.pack.specs.Pack.{answerAt, reading, cardAt}
-use Rattle.pack.specs.Reader.{isCard, readAt}
+use Rattle.pack.specs.Reader.{isCard, readAt, judged}
 use Rattle.pack.specs.Demands.{startOf, endOf, Demands}
 use Rattle.pack.specs.declared.Card.{Card}
-use Rattle.pack.proofs.Cards.{Lie, sound, past, card-place, end-place, end-is}
+use Rattle.pack.proofs.Cards.{Lie, sound, past, card-place, card-before, end-place, end-is}
+use Rattle.words.specs.Iterate.{iterate}
+use Rattle.pack.specs.declared.Card.the-variants.{Done}
 use Rattle.pack.proofs.Whole.{whole}
 
 -- ---- cards that lie one behind the other
@@ -55,9 +58,50 @@ module _ (s : List ℕ) where
   follows i j h e =
       lie-behind 0 (reading s .cards) (length s) (reading s .ending) i j (sound s .lie) h (card-place s j e .0)
 
-  late : (p : ℕ) → 14 ≤ p → isCard (cardAt s p) ≡ false
+  -- the place after n calls
+  abbrev after : ℕ → ℕ
+  after n = iterate (λ _ place. readAt s place .next) n 0
+
+  goes-on : (p : ℕ) → p < length (reading s .cards) → readAt s p .next ≡ p + 1
+  unfolding readAt
+  goes-on p h = rw (card-before s p h) refl
+
+  ended : (p : ℕ) → length (reading s .cards) ≤ p → isCard (cardAt s p) ≡ false
   unfolding cardAt
-  late p h = ap isCard (past (reading s) p (omega (arith, sound s .few))) ∙ sound s .ended
+  ended p h = ap isCard (past (reading s) p h) ∙ sound s .ended .0
+
+  late : (p : ℕ) → 14 ≤ p → isCard (cardAt s p) ≡ false
+  late p h = ended p (omega (arith, sound s .few))
+
+  stands : (n : ℕ) → after n ≡ min n (length (reading s .cards))
+  unfolding iterate
+  stands zero = omega arith
+  stands (suc n) =
+      let l = length (reading s .cards) in
+      elim (decLe l n) [
+        | yes h ↦ let e : after n ≡ l = omega (arith, stands n) in
+            ap (λ (p : ℕ). readAt s p .next) e ∙ kept l (ended l (omega arith)) ∙ omega arith
+        | no h ↦ let e : after n ≡ n = omega (arith, stands n) in
+            ap (λ (p : ℕ). readAt s p .next) e ∙ goes-on n (omega arith) ∙ omega arith
+      ]
+
+  -- behind the last card all places are alike
+  alike : (n : ℕ) → cardAt s (min n (length (reading s .cards))) ≡ cardAt s n
+  unfolding cardAt
+  alike n =
+      let l = length (reading s .cards) in
+      elim (decLe l n) [
+        | yes h ↦ past (reading s) (min n l) (omega arith) ∙ sym (past (reading s) n h)
+        | no h ↦ let e : min n l ≡ n = omega arith in ap (answerAt (reading s)) e
+      ]
+
+  calls : (n : ℕ) → readAt s (after n) .card ≡ cardAt s n
+  unfolding readAt
+  calls n = ap (cardAt s) (stands n) ∙ alike n
+
+  accepted : judged s .number ≡ 0 → reading s .ending ≡ Done
+  unfolding judged
+  accepted e = sound s .ended .1 e
 
   pub demands : Demands s
   demands =
@@ -65,6 +109,7 @@ module _ (s : List ℕ) where
         given-again = λ p e. (kept p e, λ more. again p more e);
         within = lies;
         behind = follows;
+        walked = calls;
         fifteen = late;
-        whole = whole s;
+        whole = λ h e. whole s h (accepted e);
       }

@@ -109,7 +109,7 @@ module _ (s : List ℕ) (h : Bytes s) where
       }
   many-run k (suc n) at f =
       item-has s (λ r. r .ending ≡ Done → Run k at (suc n) f r) at (k .width) true 1 (k .longest) _
-      (λ r e. absurd (not-refused r e))
+      (λ r _ e. absurd (not-refused r e))
       (λ a e. run-on k at n f _ (a .fits) (a .most-is) (many-run k n _ f e))
 
   -- their count, then they
@@ -124,7 +124,7 @@ module _ (s : List ℕ) (h : Bytes s) where
   unfolding counted
   counted-run k at f =
       item-has s (λ r. r .ending ≡ Done → Counted k at f r) at 1 false (k .least) (k .most) _
-      (λ r e. absurd (not-refused r e))
+      (λ r _ e. absurd (not-refused r e))
       (λ a e. record {
         n = numberAt s at 1;
         n-most = a .most-is;
@@ -144,7 +144,7 @@ module _ (s : List ℕ) (h : Bytes s) where
   shuffle-run : (n at : ℕ) → shuffle s n at .ending ≡ Done → Shuffled n at (shuffle s n at)
   unfolding shuffle toldOf
   shuffle-run n at =
-      item-has s (λ r. r .ending ≡ Done → Shuffled n at r) at 1 true n n _ (λ r e. absurd (not-refused r e))
+      item-has s (λ r. r .ending ≡ Done → Shuffled n at r) at 1 true n n _ (λ r _ e. absurd (not-refused r e))
       (λ a. by (a .fits) (omega (arith, a .least-is, a .most-is)) (ltb (firstBad (part s (at + 1) (numberAt s at 1))) _)
       refl)
     where

@@ -6,11 +6,11 @@ use mathlib.Core.List.{List, [], _∷_, _++_}
 use lib.ListN.{length as List·length, getD}
 use Rattle.words.specs.Block.{part}
 use Rattle.words.specs.Bytes.{Bytes, bytes}
+use Rattle.words.specs.Iterate.{iterate}
 use Rattle.words.specs.Search.{placeOf}
 use Rattle.pack.specs.Pack.{reading, cardAt}
-use Rattle.pack.specs.Reader.{toldOf, isCard, readAt}
+use Rattle.pack.specs.Reader.{toldOf, isCard, readAt, judged}
 use Rattle.pack.specs.declared.Card.{Card}
-use Rattle.pack.specs.declared.Card.the-variants.{Done}
 
 -- where a card's bytes start and end
 abbrev pub startOf : Card → ℕ
@@ -58,7 +58,9 @@ pub record Demands (s : List ℕ) : Type 0 where
       → (startOf (cardAt s place) < endOf (cardAt s place)) × (endOf (cardAt s place) ≤ List·length s)
   pub behind : (i j : ℕ) → i < j → isCard (cardAt s j) ≡ true
       → endOf (cardAt s i) ≤ startOf (cardAt s j)
+  -- call n of a walk, from 0, answers what stands at place n
+  pub walked : (n : ℕ) → readAt s (iterate (λ _ place. readAt s place .next) n 0) .card ≡ cardAt s n
   -- a walk ends within fifteen calls
   pub fifteen : (place : ℕ) → 14 ≤ place → isCard (cardAt s place) ≡ false
   -- a pack that is accepted is its items, one behind the other
-  pub whole : Bytes s → reading s .ending ≡ Done → Whole s
+  pub whole : Bytes s → judged s .number ≡ 0 → Whole s
