@@ -68,7 +68,8 @@ module _ (s : List ℕ) where
     pub most-is : numberAt s at width ≤ most
 
   pub item-has : (P : Reading → Type 0) (at width : ℕ) (counts : Bool) (least most : ℕ) (f : ℕ → Reading)
-      → ((r : ℕ) → (r ≡ 0 → ⊥) → P (ends (Refused r))) → (Allowed at width counts least most → P (f (numberAt s at width)))
+      → ((r : ℕ) → (r ≡ 0 → ⊥) → P (ends (Refused r))) → (Allowed at width counts least most → P (f
+      (numberAt s at width)))
       → P (item s at width counts least most f)
   item-has P at width counts least most f ended goes =
       by (numberOf (itemRows s at width counts least most)) refl
@@ -81,7 +82,8 @@ module _ (s : List ℕ) where
             least-is = item-least s at width counts least most e refl;
             most-is = item-most s at width counts least most e refl;
           }))
-      by (suc r) e = subst⁻¹ P (item-ends s at width counts least most e (λ z. omega arith) f) (ended (suc r) (λ z. omega arith))
+      by (suc r) e = subst⁻¹ P (item-ends s at width counts least most e (λ z. omega arith) f) (ended (suc r)
+          (λ z. omega arith))
 
   card-start : (song : Bool) (a n : ℕ) → startOf (cardOf song a n) ≡ a
   unfolding toldOf
