@@ -21,8 +21,8 @@ static void play(const char *what, const uint8_t *pack,
            (const char *)pack + card.start);
 }
 
-/* The places in a shuffle are those of the reader: the word at place 2 is the
-   card that is given there. */
+/* An entry of a shuffle is the place of a word: where the card at place 2 is
+   asked for, the third word comes. */
 static void play_words(const uint8_t *pack, size_t pack_len,
                        vespruldo_pack_card shuffle)
 {

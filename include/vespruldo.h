@@ -475,11 +475,11 @@ static inline const uint8_t *vespruldo_found_key(vespruldo_found found,
 
 /* What a reader of a lesson pack answers: a card, done, or a refusal. */
 typedef struct vespruldo_pack_card {
-    uint32_t number; /* DONE or the refusal */
+    uint32_t number; /* DONE, with each card and behind the last; or refused */
     uint32_t kind;   /* NO_CARD if there is no card any more */
     size_t start;    /* of a card: where in the pack its bytes start */
     size_t length;   /* and how many they are, at least 1 */
-    size_t bad;      /* of BAD_SHUFFLE: the place of the first bad entry */
+    size_t bad;      /* of BAD_SHUFFLE: which entry, from 0, is the first bad */
     size_t next;     /* the place to ask for next */
 } vespruldo_pack_card;
 
@@ -492,7 +492,7 @@ typedef struct vespruldo_pack_card {
 typedef struct vespruldo_pack_judged {
     uint32_t number; /* DONE or the refusal */
     size_t cards;    /* how many cards the walk gives before it ends */
-    size_t bad;      /* of BAD_SHUFFLE: the place of the first bad entry */
+    size_t bad;      /* of BAD_SHUFFLE: which entry, from 0, is the first bad */
 } vespruldo_pack_judged;
 
 /* Does not compile where a `#pragma pack` that was left open, or an option, has
@@ -516,6 +516,9 @@ typedef char vespruldo_structs_are_not_packed
            card = vespruldo_pack_next(pack, pack_len, card.next);
        }
        if (card.number != VESPRULDO_DONE) { ... }
+
+   Go by `kind`, not by `number`, which is DONE with every card and stays DONE
+   behind the last one: a loop on it would not end.
 
    The cards are each word, the song if there is one, and the shuffle as one, in
    this order; then comes NO_CARD with DONE, or with a refusal. Both leave the

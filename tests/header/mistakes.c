@@ -44,7 +44,7 @@ uint32_t called(void)
     vespruldo_same(text, len, tag, 16);
     return 0;
 #elif MISTAKE == 9 /* unused-result */
-    /* Nor at a struct: it was not told apart whether there is a card. */
+    /* Nor at a struct: nobody asks whether there is a card. */
     vespruldo_pack_next(text, len, 0);
     return 0;
 #elif MISTAKE == 10 /* unused-result */

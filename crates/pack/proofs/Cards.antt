@@ -10,7 +10,7 @@ use lib.ListN.{length, getD, List·getD-eq-default}
 use Rattle.words.specs.Block.{part}
 use Rattle.answers.specs.Answers.{numberOf}
 use Rattle.pack.specs.Pack.{Reading, ends, gives, answerAt, firstBad, words, songs, cardOf, numberAt, itemRows}
-use Rattle.pack.specs.Pack.{item, many, counted, behind, shuffle, reading, cardAt}
+use Rattle.pack.specs.Pack.{item, many, counted, afterLast, shuffle, reading, cardAt}
 use Rattle.pack.specs.Reader.{toldOf, isCard, readAt, judged}
 use Rattle.pack.specs.Demands.{startOf, endOf}
 use Rattle.pack.specs.declared.Card.{Card}
@@ -139,9 +139,9 @@ module _ (s : List ℕ) where
       sooner (n + m) (k .most + m) at (at + 1) _ (omega (arith, a .most-is)) (omega arith)
       (many-sound k m n (at + 1) (f n) (omega (arith, a .fits)) (λ at′. d n at′ (a .least-is))))
 
-  behind-sound : (at : ℕ) → at ≤ length s → Sound s 0 at (behind s at)
+  after-last-sound : (at : ℕ) → at ≤ length s → Sound s 0 at (afterLast s at)
   unfolding isCard
-  behind-sound at h = by (ltb at (length s))
+  after-last-sound at h = by (ltb at (length s))
     where
       by : (t : Bool) → Sound s 0 at (ends (cond t (Refused 15) Done))
       by true = ends-sound 0 at (Refused 15) h (refused-ends 15 (λ e. omega arith))
@@ -155,10 +155,10 @@ module _ (s : List ℕ) where
       by l b (a .fits) (omega (arith, a .least-is)) (ltb b l))
     where
       by : (l b : ℕ) → at + 1 + l ≤ length s → 1 ≤ l → (t : Bool)
-          → Sound s 1 at (cond t (ends (BadShuffle b)) (gives (Shuffle (at + 1) l) (behind s (at + 1 + l))))
+          → Sound s 1 at (cond t (ends (BadShuffle b)) (gives (Shuffle (at + 1) l) (afterLast s (at + 1 + l))))
       by l b fits one true = ends-sound 1 at (BadShuffle b) h (bad-ends b)
       by l b fits one false =
-          let rest = behind-sound (at + 1 + l) fits in
+          let rest = after-last-sound (at + 1 + l) fits in
           record {
             lie = (refl, omega arith, omega arith, rest .lie);
             few = omega (arith, rest .few);

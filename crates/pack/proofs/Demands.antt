@@ -7,12 +7,13 @@ use native.Mathlib.Decide.{decLe}
 use native.Mathlib.Omega.{arith}
 use lib.ListN.{length, getD}
 use Rattle.pack.specs.Pack.{answerAt, reading, cardAt}
-use Rattle.pack.specs.Reader.{isCard, readAt, judged}
-use Rattle.pack.specs.Demands.{startOf, endOf, Demands}
+use Rattle.pack.specs.Reader.{toldOf, isCard, readAt, judged}
+use Rattle.pack.specs.Demands.{startOf, endOf, ended as told-ended, Demands}
 use Rattle.pack.specs.declared.Card.{Card}
 use Rattle.pack.proofs.Cards.{Lie, sound, past, card-place, card-before, end-place, end-is}
 use Rattle.words.specs.Iterate.{iterate}
 use Rattle.pack.specs.declared.Card.the-variants.{Done}
+use Rattle.pack.proofs.Told.{end-told}
 use Rattle.pack.proofs.Whole.{whole}
 
 -- ---- cards that lie one behind the other
@@ -103,6 +104,14 @@ module _ (s : List ℕ) where
   unfolding judged
   accepted e = sound s .ended .1 e
 
+  judging : (p : ℕ) → (p < judged s .cards → isCard (cardAt s p) ≡ true)
+      × (judged s .cards ≤ p → toldOf (cardAt s p) p ≡ told-ended (judged s) p)
+  unfolding judged
+  judging p = (
+    card-before s p,
+    λ h. end-told (cardAt s p) p (ended p h) ∙ rw (end-is s p (ended p h)) refl,
+  )
+
   pub demands : Demands s
   demands =
       record {
@@ -111,5 +120,6 @@ module _ (s : List ℕ) where
         behind = follows;
         walked = calls;
         fifteen = late;
+        judges = judging;
         whole = λ h e. whole s h (accepted e);
       }

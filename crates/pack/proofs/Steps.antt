@@ -16,7 +16,7 @@ use Rattle.words.proofs.WordLists.{loaded-word, word-lt}
 use Rattle.answers.specs.Answers.{numberOf}
 use Rattle.answers.proofs.Answers.{judged-clear}
 use Rattle.pack.specs.Pack.{Reading, ends, gives, answerAt, firstBad, words, songs, cardOf, numberAt, itemRows}
-use Rattle.pack.specs.Pack.{item, many, counted, behind, shuffle, reading, cardAt}
+use Rattle.pack.specs.Pack.{item, many, counted, afterLast, shuffle, reading, cardAt}
 use Rattle.pack.specs.declared.Card.{Card}
 use Rattle.pack.specs.declared.Card.the-variants.{Shuffle, Done, Refused, BadShuffle}
 use Rattle.pack.specs.declared.items.Shape.{Shape}
@@ -207,7 +207,7 @@ module _ (s : List ℕ) (words at place : ℕ) {r n : ℕ} (er : r ≡ numberOf 
 
   module _ (e : r ≡ 0) {b : ℕ} (eb : b ≡ firstBad (take (at + 1 + n - (at + 1)) (drop (at + 1) s))) where
     goes-to : shuffle s words at
-        ≡ cond (ltb b n) (ends (BadShuffle b)) (gives (Shuffle (at + 1) n) (behind s (at + 1 + n)))
+        ≡ cond (ltb b n) (ends (BadShuffle b)) (gives (Shuffle (at + 1) n) (afterLast s (at + 1 + n)))
     unfolding shuffle
     goes-to =
         let k : at + 1 + n - (at + 1) ≡ n = omega arith in
@@ -220,7 +220,7 @@ module _ (s : List ℕ) (words at place : ℕ) {r n : ℕ} (er : r ≡ numberOf 
         (BadShuffle b) place)
 
     module _ (h : n ≤ b) where
-      good : shuffle s words at ≡ gives (Shuffle (at + 1) n) (behind s (at + 1 + n))
+      good : shuffle s words at ≡ gives (Shuffle (at + 1) n) (afterLast s (at + 1 + n))
       good = goes-to ∙ rw (le-ltb b n h) refl
 
       pub shuffle-finds : place ≡ 0 → Shuffle (at + 1) n ≡ answerAt (shuffle s words at) place

@@ -98,7 +98,7 @@ card-told (Refused r) next e = absurd (true≢false (sym e))
 card-told (BadShuffle i) next e = absurd (true≢false (sym e))
 
 -- what is none has no bytes
-end-told : (c : Card) (next : ℕ) → isCard c ≡ false → toldOf c next
+pub end-told : (c : Card) (next : ℕ) → isCard c ≡ false → toldOf c next
     ≡ record {
       number = toldOf c 0 .number;
       kind = 0;

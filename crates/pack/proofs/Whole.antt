@@ -14,9 +14,9 @@ use Rattle.words.specs.Bytes.{Bytes, bytes}
 use Rattle.words.proofs.Bytes.{bytes-take, bytes-drop, bytes-number}
 use Rattle.words.proofs.Lists.{length-part}
 use Rattle.pack.specs.Pack.{Reading, ends, gives, firstBad, words, songs, cardOf, numberAt}
-use Rattle.pack.specs.Pack.{many, counted, behind, shuffle, reading}
+use Rattle.pack.specs.Pack.{many, counted, afterLast, shuffle, reading}
 use Rattle.pack.specs.Reader.{toldOf}
-use Rattle.pack.specs.Demands.{items, AllOf, Once, Whole}
+use Rattle.pack.specs.Demands.{items, AllOf, NoLonger, Once, Whole}
 use Rattle.pack.specs.declared.Card.{Card}
 use Rattle.pack.specs.declared.Card.the-variants.{Shuffle, Done, Refused, BadShuffle}
 use Rattle.pack.specs.declared.items.Shape.{Shape}
@@ -70,6 +70,7 @@ module _ (s : List ℕ) (h : Bytes s) where
     pub count-is : length passed ≡ n
     pub kinds-are : AllOf (cond (k .song) 2 1) passed
     pub bytes-are : drop at s ≡ items s (k .width) passed ++ drop to s
+    pub lengths-are : NoLonger (k .longest) passed
     pub to-most : to ≤ at + n * (k .width + k .longest)
 
   -- one card more in front
@@ -87,6 +88,7 @@ module _ (s : List ℕ) (h : Bytes s) where
         ending-is = run .ending-is;
         count-is = ap suc (run .count-is);
         kinds-are = (v .0, run .kinds-are);
+        lengths-are = (omega (arith, v .2, most), run .lengths-are);
         bytes-are = rw (v .1, v .2)
             (laid (bytes (k .width) l) (part s (at + k .width) l) (items s (k .width) (run .passed)) (drop (run .to) s)
             (item-bytes at (k .width) fits) (run .bytes-are));
@@ -105,6 +107,7 @@ module _ (s : List ℕ) (h : Bytes s) where
         count-is = refl;
         kinds-are = tt;
         bytes-are = refl;
+        lengths-are = tt;
         to-most = omega arith;
       }
   many-run k (suc n) at f =
@@ -115,6 +118,7 @@ module _ (s : List ℕ) (h : Bytes s) where
   -- their count, then they
   record Counted (k : Shape) (at : ℕ) (f : ℕ → ℕ → Reading) (r : Reading) : Type 0 where
     pub n : ℕ
+    pub n-least : k .least ≤ n
     pub n-most : n ≤ k .most
     pub run : Run k (at + 1) n (f n) r
     pub bytes-are : drop at s ≡ bytes 1 n ++ drop (at + 1) s
@@ -127,6 +131,7 @@ module _ (s : List ℕ) (h : Bytes s) where
       (λ r _ e. absurd (not-refused r e))
       (λ a e. record {
         n = numberAt s at 1;
+        n-least = a .least-is;
         n-most = a .most-is;
         run = many-run k (numberAt s at 1) (at + 1) (f (numberAt s at 1)) e;
         bytes-are = head at 1 (omega (arith, a .fits));
@@ -154,8 +159,8 @@ module _ (s : List ℕ) (h : Bytes s) where
 
       by : let l = numberAt s at 1 in let b = firstBad (part s (at + 1) l) in
           at + 1 + l ≤ length s → l ≡ n → (t : Bool) → ltb b l ≡ t
-          → (cond t (ends (BadShuffle b)) (gives (Shuffle (at + 1) l) (behind s (at + 1 + l)))) .ending ≡ Done
-          → Shuffled n at (cond t (ends (BadShuffle b)) (gives (Shuffle (at + 1) l) (behind s (at + 1 + l))))
+          → (cond t (ends (BadShuffle b)) (gives (Shuffle (at + 1) l) (afterLast s (at + 1 + l)))) .ending ≡ Done
+          → Shuffled n at (cond t (ends (BadShuffle b)) (gives (Shuffle (at + 1) l) (afterLast s (at + 1 + l))))
       by fits en true et e = absurd (not-bad _ e)
       by fits en false et e =
           let l = numberAt s at 1 in
@@ -186,6 +191,12 @@ module _ (s : List ℕ) (h : Bytes s) where
         songs = v .run .passed;
         shuffle = z .card;
         kinds = (w .run .kinds-are, v .run .kinds-are, z .kind-is);
+        counts = (
+          omega (arith, w .n-least, w .run .count-is),
+          omega (arith, w .n-most, w .run .count-is),
+          omega (arith, v .n-most, v .run .count-is),
+        );
+        lengths = (w .run .lengths-are, v .run .lengths-are);
         cards = w .run .cards-are ∙ ap (λ (cs : List Card). w .run .passed ++ cs)
             (v .run .cards-are ∙ ap (λ (cs : List Card). v .run .passed ++ cs) (z .cards-are));
         is = w .bytes-are ∙ ap₂ (λ (n : ℕ) (t : List ℕ). bytes 1 n ++ t) (sym (w .run .count-is))

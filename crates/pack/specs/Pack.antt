@@ -98,8 +98,8 @@ module _ (s : List ℕ) where
   counted k at follows = item at 1 false (k .least) (k .most) (λ n. many k n (at + 1) (follows n))
 
   -- "After the last card comes done, each time, or 15": 15 "bytes left over"
-  abbrev pub behind : ℕ → Reading
-  behind at = ends (cond (ltb at (length s)) (Refused 15) Done)
+  abbrev pub afterLast : ℕ → Reading
+  afterLast at = ends (cond (ltb at (length s)) (Refused 15) Done)
 
   -- "A byte counts the shuffle's entries, as many as words; they follow, a byte each", "then the shuffle as one": a
   -- card, or 14 "bad shuffle" with its place
@@ -107,7 +107,7 @@ module _ (s : List ℕ) where
   shuffle words at =
       item at 1 true words words (λ n.
       let bad = firstBad (part s (at + 1) n) in
-      cond (ltb bad n) (ends (BadShuffle bad)) (gives (Shuffle (at + 1) n) (behind (at + 1 + n))))
+      cond (ltb bad n) (ends (BadShuffle bad)) (gives (Shuffle (at + 1) n) (afterLast (at + 1 + n))))
 
   -- the whole
   unfoldable pub reading : Reading

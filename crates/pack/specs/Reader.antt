@@ -1,4 +1,4 @@
--- What the reader, and who judges a whole pack, answers.
+-- What the reader answers, and what judging a whole pack does.
 use mathlib.Core.Path.{_≡_}
 use Prim.Native.Nat.{ℕ, _+_}
 use mathlib.Core.Bool.{Bool, true, false, cond}

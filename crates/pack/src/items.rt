@@ -37,7 +37,7 @@ pub(crate) enum Found {
     },
 }
 
-pub(crate) fn words() -> Shape
+pub(crate) fn word_shape() -> Shape
     ensures { λ r. ⌜ r ≡ Pack·words ⌝ }
 {
     Shape {
@@ -49,7 +49,7 @@ pub(crate) fn words() -> Shape
     }
 }
 
-pub(crate) fn songs() -> Shape
+pub(crate) fn song_shape() -> Shape
     ensures { λ r. ⌜ r ≡ Pack·songs ⌝ }
 {
     Shape {
@@ -173,8 +173,9 @@ fn item_at(pack: &[u8], at: usize, width: usize, counts: bool, least: usize, mos
     ensures { λ r. ⌜ (r .refused ≡ numberOf (itemRows (now (pack .entry)) at width counts least most))
         × (r .number ≡ numberAt (now (pack .entry)) at width) × (r .number < 65536) ⌝ }
 {
+    // A pack has some thirty items, so what is made for blocks reads them fast enough.
     let n = words::load(pack, at, width).lo as usize;
-    let whole = width + behind(counts, n);
+    let whole = width + bytes_counted(counts, n);
     let cut = pack.len() - at < whole;
     let thirteen = row(n < least, 13, row(most < n, 13, 0));
     Item {
@@ -184,7 +185,7 @@ fn item_at(pack: &[u8], at: usize, width: usize, counts: bool, least: usize, mos
 }
 
 // How many bytes a number counts.
-fn behind(counts: bool, n: usize) -> usize
+fn bytes_counted(counts: bool, n: usize) -> usize
     ensures { λ r. ⌜ r ≡ cond counts n 0 ⌝ }
 {
     if counts { n } else { 0 }

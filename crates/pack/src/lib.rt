@@ -10,8 +10,8 @@ use items::shuffle;
 
 mod items; // items.rt: the items of a pack, from the front
 
-// What a reader answers: a card with the start and the length of its bytes, done, or a refusal; a bad shuffle has the
-// place of the entry at which it is bad.
+// What a reader answers: three kinds of card, with the start and the length of their bytes, and what ends a walk, done
+// or a refusal; a bad shuffle has the place of the entry at which it is bad.
 pub enum Card {
     Word { start: usize, length: usize },
     Song { start: usize, length: usize },
@@ -118,11 +118,11 @@ pub fn judge(pack: &[u8]) -> PackJudged
 pub fn card_at(pack: &[u8], place: usize) -> Card
     ensures { λ r. ⌜ r ≡ cardAt (now (pack .entry)) place ⌝ }
 {
-    let words = counted(pack, items::words(), 0, place);
+    let words = counted(pack, items::word_shape(), 0, place);
     let Found::On { count, at, place } = words else {
         return answer(words);
     };
-    let songs = counted(pack, items::songs(), at, place);
+    let songs = counted(pack, items::song_shape(), at, place);
     let Found::On {
         count: _,
         at,

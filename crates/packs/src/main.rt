@@ -133,20 +133,22 @@ fn plans() {
     around(plan_of(1, 1, 1, 16385, 1));
     around(plan_of(1, 1, 1, 0, 1));
     around(plan_of(1, 1, 2, 1, 1));
+    around(plan_of(1, 1, 0, 0, 2));
+    around(plan_of(12, 1, 0, 0, 13));
+    around(plan_of(3, 1, 1, 1, 2));
+    around(plan_of(1, 1, 1, 1, 1));
 }
 
 // A byte short, whole, and a byte too long.
 fn around(p: Plan) {
     let mut room = [0u8; 16900];
     let n = build(p, &mut room);
-    let mut i: usize = 0;
-    while i < 16900 {
-        if i + 1 == n {
-            built(p, &room, i);
-            built(p, &room, i + 1);
-            built(p, &room, i + 2);
+    if n > 0 {
+        if n < 16900 {
+            built(p, &room, n - 1);
+            built(p, &room, n);
+            built(p, &room, n + 1);
         }
-        i += 1;
     }
 }
 

@@ -52,7 +52,7 @@ fn packs_are_printed_one_on_each_line() {
     assert!(packs.status.success());
     let text = String::from_utf8(packs.stdout).expect("letters, digits and spaces");
     // Two packs cut, one changed, its shuffles, packs that are built, lone words.
-    assert_eq!(text.lines().count(), 11 + 22 + 190 + 64 + 27 + 6 + 25);
+    assert_eq!(text.lines().count(), 11 + 22 + 190 + 64 + 39 + 6 + 25);
     assert!(text.starts_with("least 0 0 12 0 12 0 0\nleast 1 0 12 0 12 0 0\n"));
     assert!(text.contains("\nleast 8 1 2 3 3 7 1 0 0 0 0 2 0\n"));
     assert!(text.ends_with("\nlone 255 255 0 13 0 13 0 0\n"));

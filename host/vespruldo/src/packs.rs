@@ -17,7 +17,7 @@ use crate::slices;
 /// once.
 ///
 /// ```
-/// use vespruldo::{PackCard, Pack};
+/// use vespruldo::{Pack, PackCard};
 ///
 /// // One word, no song, and the shuffle.
 /// let pack = Pack::new(&[0x01, 0x03, 0x63, 0x61, 0x74, 0x00, 0x01, 0x00]);
@@ -34,7 +34,7 @@ use crate::slices;
 /// shall play a whole pack or nothing judges it first:
 ///
 /// ```
-/// use vespruldo::{PackCard, Pack, Refusal};
+/// use vespruldo::{Pack, PackCard, Refusal};
 ///
 /// // The shuffle has the second word twice.
 /// let pack = Pack::new(b"\x02\x03cat\x03dog\x00\x02\x01\x01");
@@ -154,8 +154,8 @@ impl FusedIterator for PackCards<'_> {}
 pub struct PackRefusal {
     /// The refusal, with its number and its words.
     pub refusal: Refusal,
-    /// How many cards come before it. (Of [`slices::pack_next`]: the place that
-    /// was asked for, also where no reader comes.)
+    /// How many cards come before it. (From [`slices::pack_next`] it is the place
+    /// that was asked for, which may lie behind that.)
     pub cards: usize,
     /// Of [`Refusal::BadShuffle`] the place, from 0, of the first entry that
     /// repeats an earlier one or is too large.

@@ -198,8 +198,8 @@ fn bytes_behind_the_shuffle_are_left_over() {
 #[test]
 fn every_place_has_its_answer() {
     let mut random = Random::new(245);
-    let largest = Lesson::new(&mut random, &[1; 12], Some(1)).pack();
-    for pack in [CAT, TWO, THREE, &largest] {
+    let most_cards = Lesson::new(&mut random, &[1; 12], Some(1)).pack();
+    for pack in [CAT, TWO, THREE, &most_cards] {
         compare_places(pack);
         compare_places(&[pack, &[0]].concat());
         for len in 0..pack.len() {

@@ -6,11 +6,11 @@ use borrow.Author.Needs.{needs}
 use Rattle.pack.proofs.card_at.Statement.{statement}
 use Rattle.pack.proofs.card_at.Tie as tie
 
-words-requires : tie.Need-words-requires
-words-requires c κs = search needs
+word-shape-requires : tie.Need-word-shape-requires
+word-shape-requires c κs = search needs
 
 counted-requires : tie.Need-counted-requires
-counted-requires c κs = (omega arith, omega (arith, ap (λ (k : Shape). k .width) (c .words .ensures)))
+counted-requires c κs = (omega arith, omega (arith, ap (λ (k : Shape). k .width) (c .word-shape .ensures)))
 
 enum-known-words : tie.Need-enum-known-words
 enum-known-words c = search needs
@@ -24,17 +24,17 @@ answer-requires c κs = search needs
 returns : tie.Need-returns
 returns c =
     let w = c .before .before .before in
-    words-answer (w .before .words .ensures) (w .counted .ensures) (c .before .enum-told .given .1) (c .answer .ensures)
+    words-answer (w .before .word-shape .ensures) (w .counted .ensures) (c .before .enum-told .given .1) (c .answer .ensures)
 
-songs-requires : tie.Need-songs-requires
-songs-requires c κs = search needs
+song-shape-requires : tie.Need-song-shape-requires
+song-shape-requires c κs = search needs
 
 counted-requires-2 : tie.Need-counted-requires-2
 counted-requires-2 c κs =
     let o = c .before .before in
     let w = o .before .before in (
-      words-within (w .before .words .ensures) (w .counted .ensures) (o .words2 .given .1),
-      omega (arith, ap (λ (k : Shape). k .width) (c .songs .ensures)),
+      words-within (w .before .word-shape .ensures) (w .counted .ensures) (o .words .given .1),
+      omega (arith, ap (λ (k : Shape). k .width) (c .song-shape .ensures)),
     )
 
 enum-known-songs : tie.Need-enum-known-songs
@@ -51,7 +51,7 @@ returns-2 c =
     let v = c .before .before .before in
     let o = v .before .before .before in
     let w = o .before .before in
-    songs-answer (w .before .words .ensures) (w .counted .ensures) (o .words2 .given .1) (v .before .songs .ensures)
+    songs-answer (w .before .word-shape .ensures) (w .counted .ensures) (o .words .given .1) (v .before .song-shape .ensures)
     (v .counted2 .ensures) (c .before .enum-told2 .given .1) (c .answer2 .ensures)
 
 shuffle-requires : tie.Need-shuffle-requires
@@ -60,8 +60,8 @@ shuffle-requires c κs =
     let v = q .before .before in
     let o = v .before .before .before in
     let w = o .before .before in
-    songs-within (w .before .words .ensures) (w .counted .ensures) (o .words2 .given .1) (v .before .songs .ensures)
-    (v .counted2 .ensures) (q .songs2 .given .1)
+    songs-within (w .before .word-shape .ensures) (w .counted .ensures) (o .words .given .1) (v .before .song-shape .ensures)
+    (v .counted2 .ensures) (q .songs .given .1)
 
 returns-3 : tie.Need-returns-3
 returns-3 c =
@@ -69,20 +69,20 @@ returns-3 c =
     let v = q .before .before in
     let o = v .before .before .before in
     let w = o .before .before in
-    songs-on (w .before .words .ensures) (w .counted .ensures) (o .words2 .given .1) (v .before .songs .ensures)
-    (v .counted2 .ensures) (q .songs2 .given .1) (c .shuffle .ensures)
+    songs-on (w .before .word-shape .ensures) (w .counted .ensures) (o .words .given .1) (v .before .song-shape .ensures)
+    (v .counted2 .ensures) (q .songs .given .1) (c .shuffle .ensures)
 
 pub card-at-spec : {M : Type 1} → statement M
 card-at-spec =
     tie.close
     (tie.spec
-    words-requires
+    word-shape-requires
     counted-requires
     enum-known-words
     enum-told
     answer-requires
     returns
-    songs-requires
+    song-shape-requires
     counted-requires-2
     enum-known-songs
     enum-told-2

@@ -63,7 +63,7 @@ impl Built {
 const LARGEST: Built = Built::of(12, 40, 1, 16_384, 12);
 
 /// Each is taken a byte shorter, whole and a byte longer.
-const BUILT: [Built; 9] = [
+const BUILT: [Built; 13] = [
     Built::of(1, 1, 0, 0, 1),
     LARGEST,
     Built::of(13, 1, 0, 0, 13),
@@ -73,6 +73,10 @@ const BUILT: [Built; 9] = [
     Built::of(1, 1, 1, 16_385, 1),
     Built::of(1, 1, 1, 0, 1),
     Built::of(1, 1, 2, 1, 1),
+    Built::of(1, 1, 0, 0, 2),
+    Built::of(12, 1, 0, 0, 13),
+    Built::of(3, 1, 1, 1, 2),
+    Built::of(1, 1, 1, 1, 1),
 ];
 
 /// Lengths around the count of songs and the song's length in the largest pack.
@@ -253,16 +257,15 @@ mod tests {
         }
         assert_eq!(numbers(&changed), [91, 42, 30, 27, 0]);
         assert_eq!(numbers(&shuffle_lines()), [6, 0, 0, 58, 0]);
-        assert_eq!(numbers(&built_lines()), [2, 8, 21, 0, 2]);
+        assert_eq!(numbers(&built_lines()), [3, 12, 27, 0, 3]);
         assert_eq!(numbers(&lone_lines()), [0, 12, 13, 0, 0]);
-        assert_eq!(numbers(&lines()), [101, 89, 64, 85, 6]);
+        assert_eq!(numbers(&lines()), [102, 93, 70, 85, 7]);
     }
 
     #[test]
     fn packs_come_in_their_order_and_none_comes_twice() {
         let mut lines = lines();
-        assert_eq!(lines.len(), 11 + 22 + 190 + 64 + 27 + 6 + 25);
-        assert_eq!(lines.len(), 345);
+        assert_eq!(lines.len(), 11 + 22 + 190 + 64 + 39 + 6 + 25);
         let starts = |n: usize, front: &str| {
             assert!(lines[n].starts_with(&format!("{front} ")), "{}", lines[n]);
         };
@@ -292,15 +295,19 @@ mod tests {
         starts(308, "built 1 1 1 0 1 7");
         starts(311, "built 1 1 2 1 1 11");
         starts(313, "built 1 1 2 1 1 13");
-        starts(314, "built 12 40 1 16384 12 492");
-        starts(319, "built 12 40 1 16384 12 497");
-        starts(320, "lone 0 0");
-        starts(321, "lone 0 1");
-        starts(325, "lone 1 0");
-        starts(344, "lone 255 255");
+        starts(314, "built 1 1 0 0 2 6");
+        starts(317, "built 12 1 0 0 13 39");
+        starts(320, "built 3 1 1 1 2 13");
+        starts(323, "built 1 1 1 1 1 8");
+        starts(326, "built 12 40 1 16384 12 492");
+        starts(331, "built 12 40 1 16384 12 497");
+        starts(332, "lone 0 0");
+        starts(333, "lone 0 1");
+        starts(337, "lone 1 0");
+        starts(356, "lone 255 255");
         lines.sort_unstable();
         lines.dedup();
-        assert_eq!(lines.len(), 345);
+        assert_eq!(lines.len(), 357);
     }
 
     #[test]

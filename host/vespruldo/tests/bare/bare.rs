@@ -12,8 +12,7 @@ use core::panic::PanicInfo;
 
 use vespruldo::{
     blake2b, card_open, card_seal, chacha20, chacha20_again, find_key, gift_decipher,
-    gift_encipher, lioness_decipher, lioness_encipher, open_in_place, same, seal_in_place, Card,
-    Data, Drawer, Pack, Refusal, StreamKey, WideKey,
+    gift_encipher, lioness_decipher, lioness_encipher, open_in_place, same, seal_in_place, Data, Drawer, Pack, PackCard, Refusal, StreamKey, WideKey,
 };
 
 #[link(name = "c")]
@@ -88,7 +87,7 @@ fn others(drawer: &mut Drawer) -> Result<(), Refusal> {
 fn packs() -> Result<(), Refusal> {
     let pack = Pack::new(b"\x01\x03cat\0\x01\0");
     assert_eq!(pack.judge()?, 2);
-    let cards = [Card::Word(b"cat"), Card::Shuffle(&[0])];
+    let cards = [PackCard::Word(b"cat"), PackCard::Shuffle(&[0])];
     assert!(pack.cards().eq(cards.map(Ok)));
     let cut = Pack::new(&pack.as_bytes()[..7]);
     assert_eq!(cut.judge().map_err(Refusal::from), Err(Refusal::CutShort));

@@ -8,8 +8,8 @@ use Rattle.pack.proofs.items.item_at.Tie as tie
 load-requires : tie.Need-load-requires
 load-requires c κs = search needs
 
-behind-requires : tie.Need-behind-requires
-behind-requires c κs = search needs
+bytes-counted-requires : tie.Need-bytes-counted-requires
+bytes-counted-requires c κs = search needs
 
 add-whole : tie.Need-add-whole
 add-whole c =
@@ -18,7 +18,7 @@ add-whole c =
     let small = number-small (now (a .pack)) (λ i. omega (arith, d .before .shared-slice-known .given i)) (a .at)
     (a .width)
     (d .before .before .pre .1) (d .load .ensures) in
-    let most = cond-most (a .counts) (c .behind .ensures) in
+    let most = cond-most (a .counts) (c .bytes-counted .ensures) in
     omega (arith, small, most, d .before .before .pre .1)
 
 sub-cut : tie.Need-sub-cut
@@ -39,7 +39,7 @@ returns c =
     let a = d .before .before .args in
     item-is (now (a .pack)) (λ i. omega (arith, d .before .shared-slice-known .given i)) (a .at) (a .width) (a .counts)
     (a .least) (a .most) (d .before .before .pre .0) (d .before .before .pre .1) (d .load .ensures)
-    (c .before .before .before .behind .ensures) (c .before .before .row .ensures) (c .before .row2 .ensures)
+    (c .before .before .before .bytes-counted .ensures) (c .before .before .row .ensures) (c .before .row2 .ensures)
     (c .row3 .ensures)
 
 pub item-at-spec : {M : Type 1} → statement M
@@ -47,7 +47,7 @@ item-at-spec =
     tie.close
     (tie.spec
     load-requires
-    behind-requires
+    bytes-counted-requires
     add-whole
     sub-cut
     row-requires
