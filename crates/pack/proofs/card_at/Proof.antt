@@ -24,7 +24,8 @@ answer-requires c κs = search needs
 returns : tie.Need-returns
 returns c =
     let w = c .before .before .before in
-    words-answer (w .before .word-shape .ensures) (w .counted .ensures) (c .before .enum-told .given .1) (c .answer .ensures)
+    words-answer (w .before .word-shape .ensures) (w .counted .ensures) (c .before .enum-told .given .1)
+    (c .answer .ensures)
 
 song-shape-requires : tie.Need-song-shape-requires
 song-shape-requires c κs = search needs
@@ -51,7 +52,8 @@ returns-2 c =
     let v = c .before .before .before in
     let o = v .before .before .before in
     let w = o .before .before in
-    songs-answer (w .before .word-shape .ensures) (w .counted .ensures) (o .words .given .1) (v .before .song-shape .ensures)
+    songs-answer (w .before .word-shape .ensures) (w .counted .ensures) (o .words .given .1)
+    (v .before .song-shape .ensures)
     (v .counted2 .ensures) (c .before .enum-told2 .given .1) (c .answer2 .ensures)
 
 shuffle-requires : tie.Need-shuffle-requires
@@ -60,7 +62,8 @@ shuffle-requires c κs =
     let v = q .before .before in
     let o = v .before .before .before in
     let w = o .before .before in
-    songs-within (w .before .word-shape .ensures) (w .counted .ensures) (o .words .given .1) (v .before .song-shape .ensures)
+    songs-within (w .before .word-shape .ensures) (w .counted .ensures) (o .words .given .1)
+    (v .before .song-shape .ensures)
     (v .counted2 .ensures) (q .songs .given .1)
 
 returns-3 : tie.Need-returns-3
@@ -69,7 +72,8 @@ returns-3 c =
     let v = q .before .before in
     let o = v .before .before .before in
     let w = o .before .before in
-    songs-on (w .before .word-shape .ensures) (w .counted .ensures) (o .words .given .1) (v .before .song-shape .ensures)
+    songs-on (w .before .word-shape .ensures) (w .counted .ensures) (o .words .given .1)
+    (v .before .song-shape .ensures)
     (v .counted2 .ensures) (q .songs .given .1) (c .shuffle .ensures)
 
 pub card-at-spec : {M : Type 1} → statement M
