@@ -16,7 +16,8 @@ declare -A words=(
     [1]='key has a wrong length' [2]='nonce or iv has a wrong length' [3]='associated data too long'
     [4]='text or block length not allowed' [6]='room too short (digest: not 1 to 64)'
     [7]='opening: tag is not the recomputed one' [9]='drawer spent' [10]='either key book badly formed'
-    [11]='neither book has an entry for the class' [12]='cut short' [15]='bytes left over'
+    [11]='neither book has an entry for the class' [12]='cut short'
+    [13]='count or length not allowed' [14]='bad shuffle' [15]='bytes left over'
     [101]='command line not understood' [102]='cannot be read' [103]='exists already' [104]='cannot be written'
     [105]='not hex' [106]='drawer file damaged' [107]='drawer in use' [108]='entries not understood'
 )
@@ -27,7 +28,7 @@ declare -A always=(
     [107]='another cards draws: try again; if none runs, remove the folder with .next behind its name'
 )
 
-commands=(seal open check encipher decipher digest start draw show book classes)
+commands=(seal open check encipher decipher digest start draw show book classes pack)
 
 # The count is in a file, so that a check in a subshell counts too.
 counted() { printf . >>"$count"; }

@@ -1,4 +1,4 @@
-# To be sourced: what is shown without a key, cards that are only checked, and key books that are made and listed.
+# To be sourced: what is shown without a key, cards that are only checked, key books that are made and listed, packs.
 # shellcheck shell=bash
 # shellcheck disable=SC2154
 
@@ -184,4 +184,100 @@ listed_books() {
     done
     refused 102 '--book none' classes --book none
     refused 105 '--book-hex bad' classes --book-hex bad
+}
+
+# pack_prints LINES ARGUMENT..
+pack_prints() {
+    works pack "${@:2}"
+    printf '%s\n' "$1" | cmp -s - "$out" || fail "$1" "$(<"$out")"
+}
+
+# pack_shows LINES HEX: exactly these for the pack, however it is given, and nothing here changes.
+pack_shows() {
+    local before
+    bytes "$2" >lesson.pack
+    before=$(listing)
+    pack_prints "$1" --in lesson.pack
+    pack_prints "$1" <lesson.pack
+    pack_prints "$1" --in-hex - <<<"$2"
+    unchanged "$before"
+}
+
+# pack_refused NUMBER REASON HEX
+pack_refused() {
+    bytes "$3" >bad.pack
+    refused "$1" '--in bad.pack' pack --in bad.pack
+    reason_is "$2"
+    refused "$1" 'standard input' pack <bad.pack
+    reason_is "$2"
+}
+
+# Three words, a song and a shuffle; document 02 has the pack with a cat.
+lesson_packs() {
+    local three=0301610262630364656601 song=02006768
+    setting
+    pack_shows $'word 0 start 2 length 3\nshuffle start 7 length 1 entries 0' 0103636174000100
+    pack_shows 'word 0 start 2 length 1
+word 1 start 4 length 2
+word 2 start 7 length 3
+song start 13 length 2
+shuffle start 16 length 3 entries 2 0 1' $three${song}03020001
+    verbosely pack --in lesson.pack --verbose
+    # No byte of a word is printed, whatever it is.
+    pack_shows $'word 0 start 2 length 3\nshuffle start 7 length 1 entries 0' 01031b5b0a000100
+    pack_refused 12 'cards before it: 0' ''
+    pack_refused 12 'cards before it: 0' 01036361
+    pack_refused 12 'cards before it: 3' $three${song:0:6}
+    pack_refused 12 'cards before it: 4' $three${song}030200
+    pack_refused 13 'cards before it: 0' 00
+    pack_refused 13 'cards before it: 0' 0d
+    pack_refused 13 'cards before it: 1' 0201610002
+    pack_refused 13 'cards before it: 3' ${three:0:20}02
+    pack_refused 13 'cards before it: 4' $three${song}020001
+    pack_refused 14 'cards before it: 4; bad entry, from 0: 0' $three${song}03030001
+    pack_refused 14 'cards before it: 4; bad entry, from 0: 1' $three${song}03020201
+    pack_refused 14 'cards before it: 1; bad entry, from 0: 0' 0103636174000101
+    pack_refused 15 'cards before it: 2' 010363617400010000
+    pack_refused 15 'cards before it: 5' $three${song}03020001ff
+    long_packs
+    unread_packs
+}
+
+# The largest pack; and a song of 65,535 bytes that is wholly there, so that it is 13 and not 12.
+long_packs() {
+    local word i
+    word=28$(printf '77%.0s' {1..40})
+    { bytes 0c && for i in {1..12}; do bytes "$word"; done && bytes 01; } >twelve
+    { cat twelve && bytes 0040 && some 16384 && bytes 0c000102030405060708090a0b; } >largest
+    works pack --in largest
+    is 'the last lines' 'word 11 start 453 length 40
+song start 496 length 16384
+shuffle start 16881 length 12 entries 0 1 2 3 4 5 6 7 8 9 10 11' "$(tail -n 3 "$out")"
+    is 'lines' 14 "$(wc -l <"$out" | tr -d ' ')"
+    cat largest "$work/noise" >longer
+    refused 15 '--in longer' pack --in longer
+    reason_is 'cards before it: 14'
+    { cat twelve && bytes ffff && some 65535; } >song.pack
+    refused 13 '--in song.pack' pack --in song.pack
+    reason_is 'cards before it: 12'
+    cat "$work/noise" >>song.pack
+    refused 13 '--in song.pack' pack --in song.pack
+    head -c 66030 song.pack >short.pack
+    refused 12 '--in short.pack' pack --in short.pack
+    reason_is 'cards before it: 12'
+    refused 13 '--in /dev/zero' pack --in /dev/zero
+    refused 13 'standard input' pack < <(yes '')
+}
+
+# What is no pack at all, and what cannot be read or written.
+unread_packs() {
+    mkdir folder
+    refused 13 '--in song' pack --in song
+    refused 102 '--in none' pack --in none
+    refused 102 '--in folder' pack --in folder
+    refused 102 'standard input' pack <folder
+    refused 105 '--in-hex song' pack --in-hex song
+    refused 105 'standard input' pack --in-hex - <<<010
+    into /dev/full pack --in lesson.pack
+    says_refused 104 'standard output'
 }

@@ -17,6 +17,7 @@ pub(crate) enum Command {
     Show,
     Book,
     Classes,
+    Pack,
     Help,
     Version,
 }
@@ -28,7 +29,7 @@ struct CommandRow {
 }
 
 // In the order of their columns in the table of options.
-const COMMANDS: [CommandRow; 12] = [
+const COMMANDS: [CommandRow; 13] = [
     CommandRow {
         command: Command::Seal,
         name: *b"seal     ",
@@ -74,13 +75,17 @@ const COMMANDS: [CommandRow; 12] = [
         name: *b"classes  ",
     },
     CommandRow {
+        command: Command::Pack,
+        name: *b"pack     ",
+    },
+    CommandRow {
         command: Command::Help,
         name: *b"help     ",
     },
 ];
 
 // What each does, by its place in the table.
-const SENTENCES: [u8; 410] = *b"0 seals a text, and writes a card
+const SENTENCES: [u8; 446] = *b"0 seals a text, and writes a card
 1 opens a card, if its tag is right
 2 says whether a card opens, and writes nothing
 3 enciphers a wide block, such as a recording
@@ -91,7 +96,8 @@ const SENTENCES: [u8; 410] = *b"0 seals a text, and writes a card
 8 shows what a drawer holds, or the parts of a card
 9 makes a key book
 10 lists the classes of a key book
-11 tells more: cards help COMMAND, with examples
+11 shows the cards of a lesson pack
+12 tells more: cards help COMMAND, with examples
 ";
 
 // A command that a word names, if there is one.
@@ -120,7 +126,7 @@ fn known(command: Command) -> Named {
 
 fn in_table(word: &[u8]) -> Named {
     let mut i = 0;
-    while i < 12 {
+    while i < 13 {
         let row = row_at(i);
         let name = row.name;
         if text::is_name(&name, word) {
@@ -137,7 +143,7 @@ fn in_table(word: &[u8]) -> Named {
 
 // The command's row in the table, and its column in the table of options.
 pub(crate) fn place(command: Command) -> usize
-    ensures { λ r. ⌜ r < 12 ⌝ }
+    ensures { λ r. ⌜ r < 13 ⌝ }
 {
     match command {
         Command::Seal => 0,
@@ -151,8 +157,9 @@ pub(crate) fn place(command: Command) -> usize
         Command::Show => 8,
         Command::Book => 9,
         Command::Classes => 10,
-        Command::Help => 11,
-        Command::Version => 11,
+        Command::Pack => 11,
+        Command::Help => 12,
+        Command::Version => 12,
     }
 }
 
@@ -164,7 +171,7 @@ pub(crate) fn name(command: Command) -> Text {
 
 // The one function that has the table in view, since each that has it costs its check.
 fn row_at(i: usize) -> CommandRow
-    requires { ⌜ i < 12 ⌝ }
+    requires { ⌜ i < 13 ⌝ }
 {
     COMMANDS[i]
 }
@@ -173,7 +180,7 @@ fn row_at(i: usize) -> CommandRow
 pub(crate) fn lines() -> Text {
     let mut t = text::of(b"");
     let mut i = 0;
-    while i < 12 {
+    while i < 13 {
         t = text::and_text(t, line(i));
         i += 1;
     }
@@ -181,7 +188,7 @@ pub(crate) fn lines() -> Text {
 }
 
 fn line(i: usize) -> Text
-    requires { ⌜ i < 12 ⌝ }
+    requires { ⌜ i < 13 ⌝ }
 {
     let row = row_at(i);
     let name = row.name;

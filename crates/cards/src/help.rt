@@ -8,12 +8,12 @@ use libc::STDERR_FILENO;
 use libc::STDOUT_FILENO;
 use words::first;
 
-const VERSION: [u8; 12] = *b"cards 0.2.0
+const VERSION: [u8; 12] = *b"cards 0.3.0
 ";
 
-const OVERVIEW: [u8; 102] =
-    *b"cards seals and opens cards, enciphers wide blocks, takes digests, draws nonces and makes
-key books.
+const OVERVIEW: [u8; 122] =
+    *b"cards seals and opens cards, enciphers wide blocks, takes digests, draws nonces, makes key
+books and reads lesson packs.
 
 ";
 
@@ -146,6 +146,17 @@ const CLASSES_EXAMPLES: [u8; 116] =
     cards classes --book next-term
 ";
 
+const PACK: [u8; 278] =
+    *b"cards pack: prints a line for each card of a lesson pack, in order: its kind, where its bytes
+start in the file and how many they are. No key is needed. A word has its place too, from 0,
+by which the entries of the shuffle name it. Of a pack that is refused nothing is printed.
+";
+
+const PACK_EXAMPLES: [u8; 155] = *b"    printf '\\001\\003cat\\000\\001\\000' | cards pack
+    (set -C; printf '\\002\\003cat\\004duck\\000\\002\\001\\000' > lesson.pack)
+    cards pack --in lesson.pack
+";
+
 // `cards help COMMAND`, or the overview.
 pub(crate) fn of(command: Command) -> Refusal {
     outputs::printed(written(command))
@@ -171,6 +182,7 @@ fn written(command: Command) -> bool {
         Command::Show => page(command, &SHOW, &SHOW_EXAMPLES),
         Command::Book => page(command, &BOOK, &BOOK_EXAMPLES),
         Command::Classes => page(command, &CLASSES, &CLASSES_EXAMPLES),
+        Command::Pack => page(command, &PACK, &PACK_EXAMPLES),
         Command::Help => overview(STDOUT_FILENO),
         Command::Version => io::write_all(STDOUT_FILENO, &VERSION),
     }

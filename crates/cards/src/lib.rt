@@ -17,6 +17,7 @@ mod keys; // keys.rt: a key from its file or from key books
 mod names; // names.rt: files by name
 mod options; // options.rt: the options' table, and which are given
 mod outputs; // outputs.rt: files written beside and renamed, and standard output
+mod packs; // packs.rt: pack
 mod parse; // parse.rt: the command line
 mod refusal; // refusal.rt: what was refused, and its line
 mod rooms; // rooms.rt: the largest arrays
@@ -88,6 +89,7 @@ fn done_by(p: Parsed) -> Refusal {
         Command::Show => shows::show(o),
         Command::Book => key_books::book(o),
         Command::Classes => key_books::classes(o),
+        Command::Pack => packs::pack(o),
         _ => help::of(command),
     }
 }

@@ -9,13 +9,15 @@ use crate::tables;
 use crate::text;
 use crate::text::Text;
 use libc::STDERR_FILENO;
+use pack::PackJudged;
 use words::first;
 ghost use Prim.Native.Nat.{_<_};
 
-// What a refusal is about: a word of the command line, or an option.
+// What a refusal is about: a word of the command line, an option, or the pack that was judged.
 pub(crate) enum Subject {
     Word(usize),
     Input(Opt),
+    Pack(PackJudged),
 }
 
 // The entry is that of a key book which is badly written, from 1, or 0.
@@ -130,8 +132,8 @@ pub(crate) const NOT_RISING: usize = 1040;
 
 pub(crate) const TOO_MANY: usize = 1041;
 
-// The words of document 01, of document 02 for 12 and 15, and the tool's own.
-const WORDS: [u8; 495] = *b"1 key has a wrong length
+// The words of document 01, of document 02 for 12 to 15, and the tool's own.
+const WORDS: [u8; 541] = *b"1 key has a wrong length
 2 nonce or iv has a wrong length
 3 associated data too long
 4 text or block length not allowed
@@ -141,6 +143,8 @@ const WORDS: [u8; 495] = *b"1 key has a wrong length
 10 either key book badly formed
 11 neither book has an entry for the class
 12 cut short
+13 count or length not allowed
+14 bad shuffle
 15 bytes left over
 101 command line not understood
 102 cannot be read
@@ -263,6 +267,16 @@ pub(crate) fn of_entry(entry: u64, why: usize) -> Refusal {
     }
 }
 
+// Of a pack.
+pub(crate) fn of_pack(judged: PackJudged) -> Refusal {
+    Refusal {
+        number: judged.number,
+        about: Subject::Pack(judged),
+        why: NO_REASON,
+        entry: 0,
+    }
+}
+
 // The error number that the system gave last.
 pub(crate) fn error() -> usize {
     crate::natural(os::errno())
@@ -304,7 +318,22 @@ fn subject_of(r: Refusal, o: Options) -> Text {
     match about {
         Subject::Word(word) => text::shown(options::word(word)),
         Subject::Input(option) => input(r.number, option, o),
+        Subject::Pack(judged) => {
+            text::and_text(input(r.number, Opt::In, o), in_brackets(found(judged)))
+        },
     }
+}
+
+// How many cards of a pack come before what is refused, and the entry at which its shuffle is bad.
+fn found(judged: PackJudged) -> Text {
+    let cards = text::number(b"cards before it: ", judged.cards as u64, b"");
+    if judged.number != 14 {
+        return cards;
+    }
+    text::and_text(
+        cards,
+        text::number(b"; bad entry, from 0: ", judged.bad as u64, b""),
+    )
 }
 
 // The option as it was given and its word, or the standard stream that stands for it.

@@ -1,5 +1,5 @@
-// The largest rooms, one byte longer than what they take may be, so that what is too long is seen. The contracts give
-// only the lengths: a proof that could look inside would count a million zeros.
+// The largest rooms, longer than what they take may be, so that what is too long is seen: by a byte, but for a pack's.
+// The contracts give only the lengths: a proof that could look inside would count a million zeros.
 ghost use mathlib.Core.Path.{_≡_};
 ghost use lib.ListN.{length};
 
@@ -15,6 +15,14 @@ pub(crate) fn card() -> [u8; 65566]
     ensures { λ r. ⌜ 65566 ≡ length r ⌝ }
 {
     [0; 65566]
+}
+
+// For a pack: 494 bytes up to a song, two for its length, and as many as that can say. No count or length reaches
+// further, so the bytes behind them change no answer.
+pub(crate) fn pack() -> [u8; 66031]
+    ensures { λ r. ⌜ 66031 ≡ length r ⌝ }
+{
+    [0; 66031]
 }
 
 // For an iv and a wide block.

@@ -7,7 +7,7 @@
 //! - `0|RESULT|INPUT|WORDS`: all is done, and what the file RESULT holds is
 //!   written to standard output;
 //! - `NUMBER|CAUSE|INPUT|WORDS`: it is refused with this number on account of
-//!   CAUSE, as the line of the refusal names it;
+//!   CAUSE, as the line of the refusal names it, with or without its reason;
 //! - `same|FILE|FILE|`: two files are the same by now.
 //!
 //! WORDS are the command line, and INPUT is the file that standard input is.
@@ -19,6 +19,7 @@ mod digests;
 mod drawers;
 mod hex_files;
 mod lengths;
+mod packs;
 mod run;
 mod wide;
 
@@ -97,6 +98,7 @@ fn cases() -> Cases {
     decimals::add(&mut cases);
     hex_files::add(&mut cases);
     lengths::add(&mut cases);
+    packs::add(&mut cases);
     cases
 }
 
@@ -158,14 +160,16 @@ mod tests {
     #[test]
     fn every_command_number_and_form_comes() {
         let cases = cases();
-        assert!((150..=210).contains(&cases.runs), "{}", cases.runs);
+        assert!((200..=260).contains(&cases.runs), "{}", cases.runs);
         let table = table(&cases);
-        for number in [0, 1, 2, 3, 4, 6, 7, 9, 10, 11, 12, 15, 101, 105, 106] {
+        for number in [
+            0, 1, 2, 3, 4, 6, 7, 9, 10, 11, 12, 13, 14, 15, 101, 105, 106,
+        ] {
             let number = number.to_string();
             assert!(table.iter().any(|line| line[0] == number), "{number}");
         }
         let commands = [
-            "seal", "open", "check", "encipher", "decipher", "digest", "draw",
+            "seal", "open", "check", "encipher", "decipher", "digest", "draw", "pack",
         ];
         for command in commands {
             let of = |line: &&[&str; 4]| line[3].starts_with(&format!("{command} "));

@@ -122,6 +122,11 @@ impl Run<'_> {
         }
     }
 
+    /// Whether the command takes --out and --force.
+    fn has_output(&self) -> bool {
+        !["check", "pack"].contains(&self.command)
+    }
+
     /// Other ways to write the same command line: a word "stands behind it with =
     /// between them", unless that makes one of more than 4,096 bytes; --force,
     /// with no file to replace.
@@ -131,7 +136,7 @@ impl Run<'_> {
                 *option = option.replacen(' ', "=", 1);
             }
         }
-        if self.command != "check" && self.cases.random.below(6) == 0 {
+        if self.has_output() && self.cases.random.below(6) == 0 {
             self.options.push("--force".to_string());
         }
     }
@@ -154,7 +159,7 @@ impl Run<'_> {
     /// line of hex."
     pub fn done(mut self, result: &[u8]) {
         let (out, hex) = match self.cases.random.below(3) {
-            _ if self.command == "check" => (None, false),
+            _ if !self.has_output() => (None, false),
             0 => (Some("--out -"), false),
             1 => (Some("--out-hex -"), true),
             _ => (None, ["digest", "draw"].contains(&self.command)),
@@ -168,11 +173,22 @@ impl Run<'_> {
         self.add(0, &expected);
     }
 
+    /// What a refusal calls this option.
+    fn cause(&self, option: &str) -> String {
+        let cause = self.causes.iter().find(|(name, _)| *name == option);
+        cause.expect("an option that was given").1.clone()
+    }
+
     /// It is refused with this number on account of this option.
     pub fn refused(self, number: u32, option: &str) {
-        let cause = self.causes.iter().find(|(name, _)| *name == option);
-        let cause = cause.expect("an option that was given").1.clone();
+        let cause = self.cause(option);
         self.add(number, &cause);
+    }
+
+    /// The same with "a reason in brackets".
+    pub fn refused_since(self, number: u32, option: &str, reason: &str) {
+        let cause = self.cause(option);
+        self.add(number, &format!("{cause} ({reason})"));
     }
 
     /// The command line is not understood. "For 101, the word or the option

@@ -10,7 +10,7 @@ abbrev Inv-loop : tie.InvT-loop
 Inv-loop word i₀ i = Unit {0}
 
 abbrev μ-loop : tie.MeasureT-loop
-μ-loop word i₀ i = 12 - i
+μ-loop word i₀ i = 13 - i
 
 loop-holds : tie.Need-loop-holds Inv-loop μ-loop
 loop-holds c = search needs

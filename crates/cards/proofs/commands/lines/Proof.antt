@@ -10,7 +10,7 @@ abbrev Inv-loop : tie.InvT-loop
 Inv-loop t₀ i₀ t i = Unit {0}
 
 abbrev μ-loop : tie.MeasureT-loop
-μ-loop t₀ i₀ t i = 12 - i
+μ-loop t₀ i₀ t i = 13 - i
 
 slice-aggregate-of : tie.Need-slice-aggregate-of Inv-loop μ-loop
 slice-aggregate-of c = search needs
