@@ -16,6 +16,7 @@ use Rattle.pack.specs.Demands.{startOf, endOf}
 use Rattle.pack.specs.declared.Card.{Card}
 use Rattle.pack.specs.declared.Card.the-variants.{Shuffle, Done, Refused, BadShuffle}
 use Rattle.pack.specs.declared.items.Shape.{Shape}
+use Rattle.pack.specs.declared.Read.{Read}
 use Rattle.pack.proofs.Steps.{item-goes, item-ends, item-whole, item-least, item-most}
 
 -- ---- cards that lie one behind the other, from a place on
@@ -219,6 +220,15 @@ module _ (s : List ℕ) (p : ℕ) where
   pub read-end : {c : Card} → c ≡ cardAt s p → isCard c ≡ false → record { card = c; next = p } ≡ readAt s p
   unfolding readAt
   read-end ec e = rw (sym ec, e) refl
+
+  -- what is read there, taken apart
+  pub read-is : {r : Read} → r ≡ readAt s p → r .card ≡ cardAt s p
+  unfolding readAt
+  read-is e = ap (λ (r : Read). r .card) e
+
+  pub read-next : {r : Read} → r ≡ readAt s p → isCard (r .card) ≡ true → r .next ≡ p + 1
+  unfolding readAt
+  read-next e is = ap (λ (r : Read). r .next) e ∙ rw (sym (ap isCard (read-is e)) ∙ is) refl
 
   -- where a walk that has passed all cards before p ends
   pub judged-is : p ≤ length (reading s .cards) → {c : Card} {number bad : ℕ} → c ≡ cardAt s p → isCard c ≡ false

@@ -7,3 +7,5 @@ pub mod Whole
 pub mod Demands
 pub mod Unique
 pub mod Examples
+pub mod Lent
+pub mod Calls

@@ -65,25 +65,20 @@ pub fn reader_of<'a>(pack: &'a [u8]) -> Reader<'a>
 pub fn next<'s, 'a>(reader: &'s mut Reader<'a>) -> Card
     ensures { λ r. ⌜ Moves r (now (reader .entry)) (now (reader .exit)) ⌝ }
 {
-    let read = read_at(reader.pack, reader.place);
+    let read = step_at(reader.pack, reader.place);
     reader.place = read.next;
     read.card
 }
 
-// What a reader of the pack answers at a place, and its place after that.
+// What a reader of the pack answers at a place, and its place after that: for whoever has a place alone.
 pub fn read_at(pack: &[u8], place: usize) -> Read
     ensures { λ r. ⌜ r ≡ readAt (now (pack .entry)) place ⌝ }
 {
-    let card = card_at(pack, place);
-    let (Card::Word { .. } | Card::Song { .. } | Card::Shuffle { .. }) = card else {
-        return Read {
-            card: card,
-            next: place,
-        };
-    };
+    let mut reader = Reader { pack, place };
+    let card = next(&mut reader);
     Read {
         card: card,
-        next: place + 1,
+        next: reader.place,
     }
 }
 
@@ -102,7 +97,8 @@ pub fn judge(pack: &[u8]) -> PackJudged
 {
     let mut place = 0;
     loop {
-        let card = card_at(pack, place);
+        let read = read_at(pack, place);
+        let card = read.card;
         let (Card::Word { .. } | Card::Song { .. } | Card::Shuffle { .. }) = card else {
             return PackJudged {
                 number: number_of(card),
@@ -110,7 +106,7 @@ pub fn judge(pack: &[u8]) -> PackJudged
                 bad: bad_of(card),
             };
         };
-        place += 1;
+        place = read.next;
     }
 }
 
@@ -132,6 +128,23 @@ pub fn card_at(pack: &[u8], place: usize) -> Card
         return answer(songs);
     };
     shuffle(pack, count, at, place)
+}
+
+// A card moves a reader on, and what ends the walk does not.
+fn step_at(pack: &[u8], place: usize) -> Read
+    ensures { λ r. ⌜ r ≡ readAt (now (pack .entry)) place ⌝ }
+{
+    let card = card_at(pack, place);
+    let (Card::Word { .. } | Card::Song { .. } | Card::Shuffle { .. }) = card else {
+        return Read {
+            card: card,
+            next: place,
+        };
+    };
+    Read {
+        card: card,
+        next: place + 1,
+    }
 }
 
 // The answer that a stretch found.

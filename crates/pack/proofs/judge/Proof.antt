@@ -1,11 +1,11 @@
-use mathlib.Core.Path.{ap, sym, _∙_}
-use Prim.Native.Nat.{_-_, _<_, _≤_}
+use mathlib.Core.Path.{_≡_, ap, sym, _∙_}
+use Prim.Native.Nat.{_+_, _-_, _<_, _≤_}
 use native.Mathlib.Omega.{arith}
 use lib.ListN.{length}
 use denote.Ref.{now}
 use Rattle.pack.specs.Pack.{reading}
 use Rattle.pack.specs.Reader.{isCard}
-use Rattle.pack.proofs.Cards.{card-place, judged-is}
+use Rattle.pack.proofs.Cards.{card-place, read-is, read-next, judged-is}
 use Rattle.pack.proofs.Told.{card-key, end-key}
 use Rattle.pack.proofs.judge.Statement.{statement}
 use Rattle.pack.proofs.judge.Tie as tie
@@ -19,8 +19,8 @@ abbrev μ-loop : tie.MeasureT-loop
 loop-holds : tie.Need-loop-holds Inv-loop μ-loop
 loop-holds c = omega arith
 
-card-at-requires : tie.Need-card-at-requires Inv-loop μ-loop
-card-at-requires c κs = tt
+read-at-requires : tie.Need-read-at-requires Inv-loop μ-loop
+read-at-requires c κs = tt
 
 number-of-requires : tie.Need-number-of-requires Inv-loop μ-loop
 number-of-requires c κs = tt
@@ -33,25 +33,27 @@ returns c =
     let m = c .before .before in
     let d = m .before in
     let a = d .before .before .before .args in
-    judged-is (now (a .pack)) (d .before .loop .place) (d .before .loop .inv) (d .card-at .ensures)
+    let p = d .before .loop .place in
+    judged-is (now (a .pack)) p (d .before .loop .inv) (read-is (now (a .pack)) p (d .read-at .ensures))
     (end-key _ (m .match .keys2)) (c .before .number-of .ensures) (c .bad-of .ensures)
 
--- a card is given at a place before the last
+-- a card is given at a place before the last, and moves on by one
 placed : (c : tie.At-match-keys1 Inv-loop μ-loop) → let p = c .before .before .loop .place in
-    (p < length (reading (now (c .before .before .before .before .args .pack)) .cards)) × (p < 14)
+    (p < length (reading (now (c .before .before .before .before .args .pack)) .cards))
+    × (c .before .read-at .result .next ≡ p + 1)
 placed c =
-    let a = c .before .before .before .before .args in
-    card-place (now (a .pack)) (c .before .before .loop .place)
-    (sym (ap isCard (c .before .card-at .ensures)) ∙ card-key _ (c .match .keys1))
-
-add-place : tie.Need-add-place Inv-loop μ-loop
-add-place c = omega (arith, placed c .1)
+    let s = now (c .before .before .before .before .args .pack) in
+    let p = c .before .before .loop .place in
+    let is = card-key _ (c .match .keys1) in (
+      card-place s p (sym (ap isCard (read-is s p (c .before .read-at .ensures))) ∙ is) .0,
+      read-next s p (c .before .read-at .ensures) is,
+    )
 
 loop-less : tie.Need-loop-less Inv-loop μ-loop
-loop-less c = omega (arith, placed c .0)
+loop-less c = omega (arith, placed c .0, placed c .1)
 
 loop-again : tie.Need-loop-again Inv-loop μ-loop
-loop-again c = omega (arith, placed c .0)
+loop-again c = omega (arith, placed c .0, placed c .1)
 
 pub judge-spec : {M : Type 1} → statement M
 judge-spec =
@@ -60,10 +62,9 @@ judge-spec =
     Inv-loop
     μ-loop
     loop-holds
-    card-at-requires
+    read-at-requires
     number-of-requires
     bad-of-requires
     returns
-    add-place
     loop-less
     loop-again)

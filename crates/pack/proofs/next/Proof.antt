@@ -1,7 +1,7 @@
 -- `pack::next` meets its contract: a walk of its MIR, by hand. The borrow of the reader is opened; its slice and its
--- place go to `read_at`; the place that comes back is stored, the card is the result, and the borrow is closed at the
+-- place go to `step_at`; the place that comes back is stored, the card is the result, and the borrow is closed at the
 -- reader moved on.
--- A Reader is Copy: what it owns is had twice, one copy is kept for the closing. Assumes nothing.
+-- A Reader is Copy: what it owns is had twice, one copy is kept for the closing.
 use mathlib.Core.Path.{_≡_, refl, ap}
 use Prim.Native.Nat.{ℕ, _<_, _^_}
 use mathlib.Core.List.{[], _∷_, List}
@@ -56,10 +56,10 @@ use Rattle.pack.proofs.Read as Q
 use Rattle.pack.proofs.Read.Laws as Q′
 use Rattle.pack.proofs.Card as S
 use Rattle.pack.proofs.Card.Laws as S′
-use Rattle.pack.proofs.read_at as step
-use Rattle.pack.proofs.read_at.Symbol as step-def
-use Rattle.pack.proofs.read_at.Symbol.{name as #step}
-use Rattle.pack.proofs.read_at.Met as step-thm
+use Rattle.pack.proofs.step_at as step
+use Rattle.pack.proofs.step_at.Symbol as step-def
+use Rattle.pack.proofs.step_at.Symbol.{name as #step}
+use Rattle.pack.proofs.step_at.Met as step-thm
 use Rattle.pack.proofs.next.Key.{name as #thin}
 use Rattle.pack.proofs.next as thin
 use Rattle.pack.proofs.next.Statement as stated
@@ -205,7 +205,7 @@ module _ {M : Type 1} (𝓤 : URA M) (H : Heap 𝓤) (A : Atoms 𝓤) (W : Given
         (whole !))))) (from ! (stop !)) (init ! 7 refl (tt, record { fits = fields .1 .0 .1 })) $
         move ! (5 ∷ 1 ∷ []) $ use2 W (raw (StepC 𝓤 H A at-mem run .pre to) ⊛ ‵ (Own h)) (apart (fields .1 .0 .1)) $
         split ! $
-        -- [what `read_at` asks; what the reader owns; its cell; the open borrow; obs; auth; true; _4; …]
+        -- [what `step_at` asks; what the reader owns; its cell; the open borrow; obs; auth; true; _4; …]
         calls-at ! fm (StepC 𝓤 H A at-mem run) known to (and-then ! (load ! (from ! (stop !)) (look ! 9 refl))
         (and-then ! (load ! (from ! (stop !)) (look ! 7 refl)) (no-more !))) (λ w.
         use1 W (later (some (λ (t : Read). ((‵ (flft κ′ q′) ⊛ ‵ ftrue) ⊛ ‵ (Q.the-row .own t (w ∷ []))) ⊛ raw
@@ -244,7 +244,7 @@ next-spec 𝓤 H 𝓜 𝓖 𝓡 =
       tt,
     ))
     (λ C. Triple 𝓤 (C #step) (StepC 𝓤 H (𝓖 .A) (𝓜 .mem) (𝓡 .run))) (cited 𝓤 H (StepC 𝓤 H (𝓖 .A) (𝓜 .mem)
-    (𝓡 .run)) 𝓜 𝓡 code.env #step step-def.routine code.calls-pack·read-at (step-thm.met 𝓤 H 𝓜 𝓖 𝓡))
+    (𝓡 .run)) 𝓜 𝓡 code.env #step step-def.routine code.calls-pack·step-at (step-thm.met 𝓤 H 𝓜 𝓖 𝓡))
     (λ C Λ fm known κs qs bounds a g are. via 𝓤 _ (fst∗ 𝓤 _ (emp 𝓤))
     (walk 𝓤 H (𝓖 .A) W (𝓜 .mem) (𝓡 .run) (κs .0) (κs .1 .0) (qs .0) (qs .1 .0) bounds (a .0 .ptr .0) (a .0 .ptr .1)
     (a .0 .name) (a .0 .now) C Λ fm known))

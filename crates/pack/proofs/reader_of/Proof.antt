@@ -1,8 +1,7 @@
 -- `pack::reader_of` meets its contract: a walk of its MIR, by hand. A `Reader` is made of the slice passed and 0, in
 -- the result's local.
--- A `&[u8]` is Copy, so what it owns is had twice: once for src at exit, and once inside the result, beside the facts
--- of at.
--- Assumes nothing.
+-- A `&[u8]` is Copy, so what it owns is had twice: once for the slice at the end, and once inside the result, beside
+-- the facts of the place.
 use mathlib.Core.Path.{refl}
 use Prim.Native.Nat.{ℕ}
 use mathlib.Core.List.{List, [], _∷_}
