@@ -1,4 +1,5 @@
 pub mod Rounds
 pub mod Streams
+pub mod Calls
 pub mod Examples
 pub mod Unique

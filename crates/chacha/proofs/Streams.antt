@@ -1,20 +1,16 @@
 -- The key stream: one block on, adding it twice, and cutting it after whole blocks.
-use mathlib.Core.Path.{_≡_, refl, sym, ap, ap₂, _∙_}
+use mathlib.Core.Path.{_≡_, refl, sym, ap, _∙_}
 use mathlib.Core.List.{List, _++_, append-assoc}
-use Prim.Native.Nat.{ℕ, zero, suc, _+_, _*_, _^_, _≤_}
+use Prim.Native.Nat.{ℕ, zero, suc, _+_, _*_}
 use native.Mathlib.Nat.{zero-add, suc-add, add-suc, add-zero}
 use native.Mathlib.Numerals.{add-one}
 use native.Mathlib.Omega.{arith}
 use lib.ListN.{length, length-append}
 use lib.Seq.{take-all}
-use borrow.Author.Tests.{eqb-true, not-false, ltb-false, eq-eqb, le-ltb}
 use Rattle.words.specs.Block.{part}
 use Rattle.words.specs.Bytes.{plus, plusAt}
-use Rattle.answers.specs.Answers.{answered}
-use Rattle.answers.proofs.Answers.{Clear, answer-done, undone}
 use Rattle.words.proofs.Plus.{length-plus, plus-twice, plus-append, plusAt-first, plusAt-none, plusAt-append}
 use Rattle.chacha.specs.ChaCha.{block, blocks, startState, keyStream, stream}
-use Rattle.chacha.specs.Entry.{rows, streaming}
 use Rattle.chacha.proofs.Rounds.{length-block}
 
 -- ---- the loop
@@ -83,62 +79,3 @@ module _ (key nonce : List ℕ) where
       rw (eab, ea, keyStream-append counter m (blocks (length b)))
       (plus-append a b (keyStream key nonce counter m) (keyStream key nonce (counter + m) (blocks (length b)))
       (e ∙ sym (length-keyStream counter m)))
-
--- ---- the entry point
-
--- called twice it answers the same number and gives the text back, refused or not
-pub streaming-twice : (key nonce text : List ℕ) (counter : ℕ)
-    → streaming key nonce counter (streaming key nonce counter text .outcome)
-    ≡ answered (streaming key nonce counter text .number) text
-unfolding streaming
-streaming-twice key nonce text counter =
-    undone (λ t. rows (length key) (length nonce) counter (length t)) (stream key nonce counter)
-    (stream key nonce counter) text
-    (λ c. rw (length-stream key nonce text counter)) (λ c. stream-twice key nonce text counter)
-
--- what is not refused
-pub record Allowed (key nonce start text : ℕ) : Type 0 where
-  pub key-32 : key ≡ 32
-  pub nonce-12 : nonce ≡ 12
-  pub text-most : text ≤ 1048576
-  pub blocks-most : start + blocks text ≤ 2 ^ 32
-
-pub allowed : (key nonce start text : ℕ) → Clear (rows key nonce start text) → Allowed key nonce start text
-allowed key nonce start text (k, (n, (t, (b, none)))) =
-    record {
-      key-32 = eqb-true _ _ (not-false _ k);
-      nonce-12 = eqb-true _ _ (not-false _ n);
-      text-most = ltb-false _ _ t;
-      blocks-most = ltb-false _ _ b;
-    }
-
-pub streaming-done : (key nonce text : List ℕ) (counter : ℕ) → length key ≡ 32 → length nonce ≡ 12
-    → length text ≤ 1048576 → counter + blocks (length text) ≤ 2 ^ 32
-    → streaming key nonce counter text ≡ answered 0 (stream key nonce counter text)
-unfolding streaming
-streaming-done key nonce text counter ek en ht hb = simp (eq-eqb _ _ ek, eq-eqb _ _ en, le-ltb _ _ ht, le-ltb _ _ hb)
-
--- a call that is done, cut after m whole blocks: both calls are done, and they leave the same bytes
-pub streaming-cut : (key nonce a b : List ℕ) (counter m : ℕ) → length a ≡ 64 * m
-    → streaming key nonce counter (a ++ b) .number ≡ 0
-    → (streaming key nonce counter a .number ≡ 0) × (streaming key nonce (counter + m) b .number ≡ 0)
-    × (streaming key nonce counter (a ++ b) .outcome
-    ≡ streaming key nonce counter a .outcome ++ streaming key nonce (counter + m) b .outcome)
-unfolding streaming
-streaming-cut key nonce a b counter m e done =
-    let d = answer-done (stream key nonce counter (a ++ b)) (a ++ b)
-    (rows (length key) (length nonce) counter (length (a ++ b))) tt done in
-    let k = allowed (length key) (length nonce) counter (length (a ++ b)) (d .0) in
-    let l = length-append a b in
-    let ht = k .text-most in
-    let hb = k .blocks-most in
-    let whole = streaming-done key nonce (a ++ b) counter (k .key-32) (k .nonce-12) ht hb in
-    let first = streaming-done key nonce a counter (k .key-32) (k .nonce-12) (omega (arith, ht, l))
-    (omega (arith, hb, l)) in
-    let second = streaming-done key nonce b (counter + m) (k .key-32) (k .nonce-12) (omega (arith, ht, l))
-    (omega (arith, hb, l, e)) in (
-      ap (λ r. r .number) first,
-      ap (λ r. r .number) second,
-      ap (λ r. r .outcome) whole ∙ stream-cut key nonce a b counter m e
-          ∙ sym (ap₂ _++_ (ap (λ r. r .outcome) first) (ap (λ r. r .outcome) second)),
-    )

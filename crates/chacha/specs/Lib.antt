@@ -1,2 +1,3 @@
 pub mod ChaCha
 pub mod Entry
+pub mod Bursts

@@ -1,9 +1,10 @@
-// ChaCha20 as a key stream, added where the text lies.
+// ChaCha20 as a key stream, added where the text lies, which tells where it stopped.
 use answers::row;
 use std::num::wrapping_add_u32;
 use words::Block;
 ghost use mathlib.Core.Path.{_≡_};
 ghost use Prim.Native.Nat.{_+_, _≤_, _<_, _^_};
+ghost use lib.Dec.{ltb};
 ghost use lib.ListN.{length};
 ghost use Rattle.words.specs.Block.{part};
 ghost use Rattle.words.specs.Bytes.{number};
@@ -12,32 +13,55 @@ ghost use Rattle.answers.specs.Answers.{numberOf};
 ghost use Rattle.chacha.specs.ChaCha.{quarter, doubleRound, rounds, startState, blockFrom, blocks, stream};
 ghost use Rattle.chacha.specs.Entry.{rows, Streaming};
 
-// Adds the key stream, from block `start` on, to text in place. Answers 0, or the refusal.
-pub fn stream(key: &[u8], nonce: &[u8], start: u32, text: &mut [u8]) -> u32
-    ensures { λ r. ⌜ Streaming r (now (key .entry)) (now (nonce .entry)) start (now (text .entry))
+// What a call answers: 0 or the refusal, and where the stream stopped. That is the start plus the blocks used, the
+// counter to go on with, which may be 2^32; with a refusal it is the start.
+#[repr(C)]
+pub struct Streamed {
+    pub number: u32,
+    pub next: u64,
+}
+
+// Adds the key stream, from block `start` on, to text in place. Answers 0, or the refusal, and where it stopped.
+pub fn stream(key: &[u8], nonce: &[u8], start: u64, text: &mut [u8]) -> Streamed
+    ensures { λ r. ⌜ Streaming (r .number) (r .next) (now (key .entry)) (now (nonce .entry)) start (now (text .entry))
         (now (text .exit)) ⌝ }
 {
     let refused = refusal(key.len(), nonce.len(), start, text.len());
     if refused != 0 {
-        return refused;
+        return Streamed {
+            number: refused,
+            next: start,
+        };
     }
-    stream_from(key, nonce, start as u64, text);
-    0
+    Streamed {
+        number: 0,
+        next: stream_from(key, nonce, start, text),
+    }
 }
 
 // The refusal that the lengths and the start call for, or 0: the rows from the last up.
-fn refusal(key: usize, nonce: usize, start: u32, text: usize) -> u32
+fn refusal(key: usize, nonce: usize, start: u64, text: usize) -> u32
     ensures { λ r. ⌜ r ≡ numberOf (rows key nonce start text) ⌝ }
 {
-    let eight = row(start as u64 + blocks_in(text) > 4294967296, 8, 0);
+    let eight = row(ends_late(start, text), 8, 0);
     let four = row(text > 1048576, 4, eight);
     let two = row(nonce != 12, 2, four);
     row(key != 32, 1, two)
 }
 
+// Whether start plus the blocks of n bytes exceeds 2^32. The sum itself could pass 2^64, so the blocks are compared
+// with what is left up to 2^32, once the start is known to be no greater. They are counted first: so the compiler makes
+// no jump of either test, and of the start no more shows in the time than whether it is refused.
+fn ends_late(start: u64, n: usize) -> bool
+    ensures { λ r. ⌜ r ≡ ltb (2 ^ 32) (start + blocks n) ⌝ }
+{
+    let needed = blocks_in(n);
+    start > 4294967296 || needed > 4294967296 - start
+}
+
 // How many blocks of 64 bytes hold n bytes.
 fn blocks_in(n: usize) -> u64
-    ensures { λ r. ⌜ (r ≡ blocks n) × (r ≤ 2 ^ 60) ⌝ }
+    ensures { λ r. ⌜ r ≡ blocks n ⌝ }
 {
     if n % 64 == 0 {
         return (n / 64) as u64;

@@ -14,8 +14,8 @@ use Rattle.answers.specs.Answers.{Answer, answered}
 use Rattle.answers.proofs.Answers.{Clear}
 use Rattle.words.proofs.Lists.{length-part}
 use Rattle.words.proofs.Plus.{length-plus, plus-zeros, plusAt-first, plusAt-append}
-use Rattle.chacha.specs.Entry.{streaming}
-use Rattle.chacha.proofs.Streams.{streaming-done}
+use Rattle.chacha.specs.Entry.{Stopped, Streaming}
+use Rattle.chacha.proofs.Calls.{streaming-done}
 use Rattle.blake.specs.Blake.{digest}
 use Rattle.blake.specs.Entry.{digesting}
 use Rattle.blake.proofs.Hashing.{digesting-done}
@@ -67,20 +67,20 @@ module _ (j : ℕ) (key iv : List ℕ) (low : 1 ≤ j) (high : j ≤ 4) (hk : le
     short : length (right block) ≤ 1048576
     short = simp length-drop (omega arith)
 
-    pub stream-step-is : (k x : List ℕ) (at end r : ℕ) → at ≡ 12 * (j - 1) → end ≡ at + 12
+    pub stream-step-is : (k x : List ℕ) (at end r next : ℕ) → at ≡ 12 * (j - 1) → end ≡ at + 12
         → k ≡ plus (left block) (piece 32 j key)
-        → answered r x ≡ streaming k (take (end - at) (drop at iv)) 0 (take (length block - 32) (right block))
+        → Streaming r next k (take (end - at) (drop at iv)) 0 (take (length block - 32) (right block)) x
         → putMid 32 (length block - 32) block x ≡ streamStep chacha key iv j block
     unfolding streamStep piece
-    stream-step-is k x at end r ea ee ek es =
+    stream-step-is k x at end r next ea ee ek es =
         let n = part iv (12 * (j - 1)) 12 in
         let en : take (end - at) (drop at iv) ≡ n = let e : end - at ≡ 12 = omega arith in rw (e, ea) in
         let lk : length k ≡ 32 = ap length ek ∙ length-plus (left block) (part key (32 * (j - 1)) 32)
         ∙ length-take-le 32 block (omega arith) in
         let hb : 0 + (length (right block) + 63) / 64 ≤ 2 ^ 32 = omega (arith, short) in
-        let es′ : answered r x ≡ streaming k n 0 (right block) = es ∙ rw (en, lent) in
-        let ex : x ≡ chacha k n (right block) = ap (λ (y : Answer (List ℕ)). y .outcome)
-        (es′ ∙ streaming-done k n (right block) 0 lk iv-piece short hb) in
+        let es′ : Streaming r next k n 0 (right block) x = es ∙ rw (en, lent) in
+        let ex : x ≡ chacha k n (right block) = ap (λ (y : Answer Stopped). y .outcome .text)
+        (es′ ∙ streaming-done k n 0 (right block) lk iv-piece short hb) in
         rw (
           drop-of-length-le (right block) {i = length block - 32} (simp length-drop (omega arith)),
           append-nil,

@@ -1,6 +1,7 @@
 // What C and Rust link. Each function but the last two is a thin call with the whole promise of what it calls, by its
 // name; a slice crosses as a pointer and a length, a struct by value.
 use books::Found;
+use chacha::Streamed;
 use drawer::Drawer;
 use drawer::Drawn;
 use drawer::DrawnIv;
@@ -146,9 +147,14 @@ pub extern "C" fn vespruldo_card_open(key: &[u8], data: &[u8], card: &[u8], room
 }
 
 #[no_mangle]
-pub extern "C" fn vespruldo_chacha20(key: &[u8], nonce: &[u8], start: u32, text: &mut [u8]) -> u32
-    ensures { λ r. ⌜ chacha.Streaming r (now (key .entry)) (now (nonce .entry)) start (now (text .entry))
-        (now (text .exit)) ⌝ }
+pub extern "C" fn vespruldo_chacha20(
+    key: &[u8],
+    nonce: &[u8],
+    start: u64,
+    text: &mut [u8],
+) -> Streamed
+    ensures { λ r. ⌜ chacha.Streaming (r .number) (r .next) (now (key .entry)) (now (nonce .entry)) start
+        (now (text .entry)) (now (text .exit)) ⌝ }
 {
     chacha::stream(key, nonce, start, text)
 }
@@ -241,19 +247,19 @@ pub extern "C" fn vespruldo_same(a: &[u8], b: &[u8]) -> bool
     words::same(a, b)
 }
 
-// The version 0.3.0, as 10000 times the first number, 100 times the second and the third.
+// The version 0.4.0, as 10000 times the first number, 100 times the second and the third.
 #[no_mangle]
 pub extern "C" fn vespruldo_version() -> u32
-    ensures { λ r. ⌜ r ≡ 300 ⌝ }
+    ensures { λ r. ⌜ r ≡ 400 ⌝ }
 {
-    300
+    400
 }
 
 // What the header has every caller refer to: the number in the name goes up when a signature or a struct of an older
 // interface changes, and a caller that was compiled before then does not link.
 #[no_mangle]
-pub extern "C" fn vespruldo_interface_1() -> u32
-    ensures { λ r. ⌜ r ≡ 1 ⌝ }
+pub extern "C" fn vespruldo_interface_2() -> u32
+    ensures { λ r. ⌜ r ≡ 2 ⌝ }
 {
-    1
+    2
 }

@@ -2,11 +2,8 @@ use borrow.Author.Needs.{needs}
 use Rattle.chacha.proofs.refusal.Statement.{statement}
 use Rattle.chacha.proofs.refusal.Tie as tie
 
-blocks-in-requires : tie.Need-blocks-in-requires
-blocks-in-requires c κs = search needs
-
-add-row : tie.Need-add-row
-add-row c = search needs
+ends-late-requires : tie.Need-ends-late-requires
+ends-late-requires c κs = search needs
 
 row-requires : tie.Need-row-requires
 row-requires c κs = search needs
@@ -28,9 +25,9 @@ returns c =
       c .before .row3 .ensures,
       c .before .before .row2 .ensures,
       r .row .ensures,
-      r .before .blocks-in .ensures .0,
+      r .before .ends-late .ensures,
     )
 
 pub refusal-spec : {M : Type 1} → statement M
 refusal-spec =
-    tie.close (tie.spec blocks-in-requires add-row row-requires row-requires-2 row-requires-3 row-requires-4 returns)
+    tie.close (tie.spec ends-late-requires row-requires row-requires-2 row-requires-3 row-requires-4 returns)

@@ -66,7 +66,7 @@ returns c =
     let p = d .pre in
     let left-of = take-take 32 32 (now (d .args .block)) (omega arith) in
     stream-step-is (d .args .j) (now (d .args .key)) (now (d .args .iv)) (p .0 .0) (p .0 .1) (p .1 .0) (p .1 .1)
-    (now (d .args .block)) (p .1 .2) (p .1 .3) _ _ _ _ _
+    (now (d .args .block)) (p .1 .2) (p .1 .3) _ _ _ _ _ _
     refl refl (s .before .before .before .before .stream-key .ensures
     ∙ ap (λ l. plus l (piece 32 (d .args .j) (now (d .args .key)))) left-of) (s .stream .ensures)
 
