@@ -1,5 +1,5 @@
-// Runs document 01's edges and prints what each call answered and left, a line for each case. The modules say what
-// their lines hold; numbers are in decimal, bytes in hex, the first byte first, `-` for none.
+// Runs document 01's edges, and those of K2, and prints what each call answered and left, a line for each case. The
+// modules say what their lines hold; numbers are in decimal, bytes in hex, the first byte first, `-` for none.
 ghost use Prim.Native.Nat.{_≤_};
 ghost use lib.ListN.{length};
 use libc::STDOUT_FILENO;
@@ -7,11 +7,13 @@ use libc::STDOUT_FILENO;
 mod cards; // cards.rt: sealing and opening
 mod draws; // draws.rt: the drawer of nonces
 mod keys; // keys.rt: the key books
+mod streams; // streams.rt: the key stream
 
 fn main() {
     cards::cards();
     draws::draws();
     keys::keys();
+    streams::streams();
 }
 
 // Bytes by a rule of the place, the same in each run.
@@ -35,9 +37,9 @@ fn put_number(n: u64) {
     io::print_decimal(STDOUT_FILENO, n);
 }
 
-// A space and bytes, at most 48.
+// A space and bytes, at most 129.
 fn put_bytes(s: &[u8]) {
-    let mut shown = [0u8; 96];
+    let mut shown = [0u8; 258];
     let n = hex::show(s, &mut shown);
     io::write_all(STDOUT_FILENO, b" ");
     io::write_all(STDOUT_FILENO, words::first(&shown, n));

@@ -1,11 +1,14 @@
-// Answers each line of its input: `gift KEY BLOCK`, `chacha KEY NONCE COUNTER TEXT`, `blake KEY TEXT LENGTH` or
+// Answers each line of its input: `gift KEY BLOCK`, `chacha KEY NONCE START TEXT`, `blake KEY TEXT LENGTH` or
 // `lioness KEY IV BLOCK`. Fields are in hex, in lower case, `-` for no bytes, with the first byte first; those of gift,
-// which are numbers, with the most significant byte first, and so is the counter, four bytes. It prints the number
+// which are numbers, with the most significant byte first, and so is the start, eight bytes. It prints the number
 // answered and the bytes left: of a block after enciphering it, after deciphering that, and after deciphering once
-// more; of a text after the key stream, and after the same stream again; of a digest the room, which had a5 in each
-// byte. What is not such a line, or has a field of more than 1152 bytes, is a bad line.
+// more; of a text after the key stream, and after the same stream again, each time with the place where the stream
+// stopped before them, eight bytes as the start has them; of a digest the room, which had a5 in each byte. What is not
+// such a line, or has a field of more than 1152 bytes, is a bad line.
+use chacha::Streamed;
 use libc::STDIN_FILENO;
 use libc::STDOUT_FILENO;
+use words::Block;
 use words::first;
 use words::same;
 
@@ -18,7 +21,7 @@ struct Field {
 // A number, in the same way.
 struct Number {
     good: bool,
-    value: u32,
+    value: u64,
 }
 
 fn main() {
@@ -97,14 +100,13 @@ fn read_reversed(good: bool, s: &[u8], room: &mut [u8]) -> Field {
     f
 }
 
-// Reads a number of n bytes, at most four.
+// Reads a number of n bytes, at most eight.
 fn read_number(good: bool, s: &[u8], n: usize) -> Number {
-    let mut bytes = [0u8; 4];
+    let mut bytes = [0u8; 8];
     let f = read_reversed(good, s, &mut bytes);
-    let x = words::load(&bytes, 0, 4);
     Number {
         good: f.good && f.len == n,
-        value: (x.lo % 4294967296) as u32,
+        value: words::load(&bytes, 0, 8).lo,
     }
 }
 
@@ -169,7 +171,7 @@ fn chacha_line(s: &[u8]) -> bool {
     let u = behind(t);
     let k = read(true, word(s), &mut key);
     let n = read(k.good, word(t), &mut nonce);
-    let c = read_number(n.good, word(u), 4);
+    let c = read_number(n.good, word(u), 8);
     let x = read(c.good, behind(u), &mut text);
     if x.good {
         let key = first(&key, k.len);
@@ -179,12 +181,20 @@ fn chacha_line(s: &[u8]) -> bool {
     x.good
 }
 
-fn chacha_text(key: &[u8], nonce: &[u8], counter: u32, x: &mut [u8]) {
-    let once = chacha::stream(key, nonce, counter, x);
-    put(once, x);
+fn chacha_text(key: &[u8], nonce: &[u8], start: u64, x: &mut [u8]) {
+    let once = chacha::stream(key, nonce, start, x);
+    put_streamed(once, x);
     space();
-    let again = chacha::stream(key, nonce, counter, x);
-    put(again, x);
+    let again = chacha::stream(key, nonce, start, x);
+    put_streamed(again, x);
+}
+
+fn put_streamed(s: Streamed, x: &[u8]) {
+    let mut next = [0u8; 8];
+    words::store(&mut next, 0, 8, Block { lo: s.next, hi: 0 });
+    put_reversed(s.number, &next);
+    space();
+    put_bytes(x);
 }
 
 fn blake_line(s: &[u8]) -> bool {
@@ -210,10 +220,14 @@ fn blake_text(key: &[u8], text: &[u8], len: usize) {
 
 // Prints a number and bytes.
 fn put(number: u32, s: &[u8]) {
-    let mut shown = [0u8; 2304];
-    let n = hex::show(s, &mut shown);
     io::print_decimal(STDOUT_FILENO, number as u64);
     space();
+    put_bytes(s);
+}
+
+fn put_bytes(s: &[u8]) {
+    let mut shown = [0u8; 2304];
+    let n = hex::show(s, &mut shown);
     io::write_all(STDOUT_FILENO, first(&shown, n));
 }
 

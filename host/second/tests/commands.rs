@@ -38,11 +38,13 @@ fn edges_are_printed_one_on_each_line() {
     let edges = second(&["edges"], b"");
     assert!(edges.status.success());
     let text = String::from_utf8(edges.stdout).expect("letters, digits and spaces");
-    // HyENA, drawers and key books.
-    assert_eq!(text.lines().count(), 278 + 48 + 676);
+    // HyENA, drawers, key books and the key stream.
+    assert_eq!(text.lines().count(), 278 + 48 + 676 + 108);
     assert!(text.starts_with("16 12 0 0 5 16 128 0 a5a5a5a5a5 "));
     assert!(text.contains("d4a5a5a5a5a5\ndraw 0 0 0 000000000000000000000000 0 1 "));
-    assert!(text.ends_with("\nkey 12 12 65535 10 - 0 0\n"));
+    assert!(text.contains("\nkey 12 12 65535 10 - 0 0\nstream 32 12 0 0 0 0 -\n"));
+    let max = u64::MAX;
+    assert!(text.ends_with(&format!("\nstream 31 11 {max} 1 1 {max} 09\n")));
     assert!(!text.contains("  ") && !text.contains(" \n"));
 }
 

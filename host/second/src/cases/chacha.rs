@@ -1,8 +1,8 @@
 //! The cases of ChaCha20: `chacha KEY NONCE START TEXT`, where START is a
-//! number of four bytes, most significant byte first.
+//! number of eight bytes, most significant byte first.
 
 use super::published_bytes;
-use crate::chacha::stream;
+use crate::chacha::{stream, Streamed};
 use crate::lines::{fields, print_field, Order};
 use crate::random::Random;
 
@@ -16,7 +16,9 @@ pub struct Published {
     key: &'static str,
     nonce: &'static str,
     /// The block counter at the start.
-    pub start: u32,
+    pub start: u64,
+    /// "Start plus blocks used" (document 02, K2), which the RFC does not print.
+    pub next: u64,
     /// The text before.
     pub text: &'static [u8],
     result: &'static str,
@@ -47,6 +49,7 @@ pub const PUBLISHED: [Published; 9] = [
         key: "000102030405060708090a0b0c0d0e0f101112131415161718191a1b1c1d1e1f",
         nonce: "000000090000004a00000000",
         start: 1,
+        next: 2,
         text: &[0; 64],
         result: "10f1e7e4d13b5915500fdd1fa32071c4c7d1f4c733c068030422aa9ac3d46c4e\
                  d2826446079faa0914c2d705d98b02a2b5129cd1de164eb9cbd083e8a2503c4e",
@@ -56,6 +59,7 @@ pub const PUBLISHED: [Published; 9] = [
         key: "000102030405060708090a0b0c0d0e0f101112131415161718191a1b1c1d1e1f",
         nonce: "000000000000004a00000000",
         start: 1,
+        next: 3,
         text: b"Ladies and Gentlemen of the class of '99: If I could offer you only \
                 one tip for the future, sunscreen would be it.",
         result: "6e2e359a2568f98041ba0728dd0d6981e97e7aec1d4360c20a27afccfd9fae0b\
@@ -68,6 +72,7 @@ pub const PUBLISHED: [Published; 9] = [
         key: "0000000000000000000000000000000000000000000000000000000000000000",
         nonce: "000000000000000000000000",
         start: 0,
+        next: 1,
         text: &[0; 64],
         result: "76b8e0ada0f13d90405d6ae55386bd28bdd219b8a08ded1aa836efcc8b770dc7\
                  da41597c5157488d7724e03fb8d84a376a43b8f41518a11cc387b669b2ee6586",
@@ -77,6 +82,7 @@ pub const PUBLISHED: [Published; 9] = [
         key: "0000000000000000000000000000000000000000000000000000000000000000",
         nonce: "000000000000000000000000",
         start: 1,
+        next: 2,
         text: &[0; 64],
         result: "9f07e7be5551387a98ba977c732d080dcb0f29a048e3656912c6533e32ee7aed\
                  29b721769ce64e43d57133b074d839d531ed1f28510afb45ace10a1f4b794d6f",
@@ -86,6 +92,7 @@ pub const PUBLISHED: [Published; 9] = [
         key: "0000000000000000000000000000000000000000000000000000000000000001",
         nonce: "000000000000000000000000",
         start: 1,
+        next: 2,
         text: &[0; 64],
         result: "3aeb5224ecf849929b9d828db1ced4dd832025e8018b8160b82284f3c949aa5a\
                  8eca00bbb4a73bdad192b5c42f73f2fd4e273644c8b36125a64addeb006c13a0",
@@ -95,6 +102,7 @@ pub const PUBLISHED: [Published; 9] = [
         key: "00ff000000000000000000000000000000000000000000000000000000000000",
         nonce: "000000000000000000000000",
         start: 2,
+        next: 3,
         text: &[0; 64],
         result: "72d54dfbf12ec44b362692df94137f328fea8da73990265ec1bbbea1ae9af0ca\
                  13b25aa26cb4a648cb9b9d1be65b2c0924a66c54d545ec1b7374f4872e99f096",
@@ -104,6 +112,7 @@ pub const PUBLISHED: [Published; 9] = [
         key: "0000000000000000000000000000000000000000000000000000000000000000",
         nonce: "000000000000000000000002",
         start: 0,
+        next: 1,
         text: &[0; 64],
         result: "c2c64d378cd536374ae204b9ef933fcd1a8b2288b3dfa49672ab765b54ee27c7\
                  8a970e0e955c14f3a88e741b97c286f75f8fc299e8148362fa198a39531bed6d",
@@ -113,6 +122,7 @@ pub const PUBLISHED: [Published; 9] = [
         key: "0000000000000000000000000000000000000000000000000000000000000001",
         nonce: "000000000000000000000002",
         start: 1,
+        next: 7,
         text: b"Any submission to the IETF intended by the Contributor for publication \
                 as all or part of an IETF Internet-Draft or RFC and any statement made \
                 within the context of an IETF activity is considered an \"IETF \
@@ -137,6 +147,7 @@ pub const PUBLISHED: [Published; 9] = [
         key: "1c9240a5eb55d38af333888604f6b5f0473917c1402b80099dca5cbc207075c0",
         nonce: "000000000000000000000002",
         start: 42,
+        next: 44,
         text: b"'Twas brillig, and the slithy toves\n\
                 Did gyre and gimble in the wabe:\n\
                 All mimsy were the borogoves,\n\
@@ -148,9 +159,9 @@ pub const PUBLISHED: [Published; 9] = [
     },
 ];
 
-fn line(key: &[u8], nonce: &[u8], start: u32, text: &[u8]) -> String {
+fn line(key: &[u8], nonce: &[u8], start: u64, text: &[u8]) -> String {
     let [key, nonce, text] = [key, nonce, text].map(|bytes| print_field(bytes, ORDER));
-    format!("chacha {key} {nonce} {start:08x} {text}")
+    format!("chacha {key} {nonce} {start:016x} {text}")
 }
 
 fn published_line(published: &Published) -> String {
@@ -163,7 +174,7 @@ fn random_line(
     random: &mut Random,
     key_len: usize,
     nonce_len: usize,
-    start: u32,
+    start: u64,
     text_len: usize,
 ) -> String {
     let (key, nonce) = (random.bytes(key_len), random.bytes(nonce_len));
@@ -176,7 +187,7 @@ fn text_lines(random: &mut Random) -> Vec<String> {
         .into_iter()
         .map(|text_len| {
             // Halved, so that no text passes the last counter.
-            let start = random.next_u64() as u32 / 2;
+            let start = u64::from(random.next_u64() as u32 / 2);
             random_line(random, 32, 12, start, text_len)
         })
         .collect()
@@ -217,6 +228,24 @@ fn wrong_length_lines(random: &mut Random) -> Vec<String> {
     list
 }
 
+/// Starts that need more than 32 bits: the one where a stream may stop, and
+/// those above it.
+fn wide_start_lines(random: &mut Random) -> Vec<String> {
+    [
+        (0x1_0000_0000, 0),
+        (0x1_0000_0000, 1),
+        (0x1_0000_0001, 0),
+        (u64::MAX, 0),
+        (u64::MAX, 64),
+        (1 << 63, 1),
+        // Another number if a byte is lost or turned.
+        (0x0102_0304_0506_0708, 1),
+    ]
+    .into_iter()
+    .map(|(start, text_len)| random_line(random, 32, 12, start, text_len))
+    .collect()
+}
+
 /// All cases of ChaCha20.
 pub fn lines() -> Vec<String> {
     let mut random = Random::new(0x6368_6163);
@@ -225,22 +254,23 @@ pub fn lines() -> Vec<String> {
         text_lines(&mut random),
         counter_lines(&mut random),
         wrong_length_lines(&mut random),
+        wide_start_lines(&mut random),
     ]
     .concat()
 }
 
-/// The answer to the fields `KEY NONCE START TEXT`: the number and the text
-/// after the stream, and after the stream over that again. Nothing if the
-/// fields are something else.
+/// The answer to the fields `KEY NONCE START TEXT`: the number, where the stream
+/// stopped, printed as START is, and the text after it; and the same after the
+/// stream over that again, from the same start. Nothing if the fields are
+/// something else.
 pub fn answer(given: &[u8]) -> Option<String> {
-    let [key, nonce, start, text] = fields(given, ORDER)?;
-    let start = u32::from_be_bytes(start.try_into().ok()?);
-    let mut once = text;
-    let n1 = stream(&key, &nonce, start, &mut once);
-    let mut twice = once.clone();
-    let n2 = stream(&key, &nonce, start, &mut twice);
-    let [c, t] = [once, twice].map(|bytes| print_field(&bytes, ORDER));
-    Some(format!("{n1} {c} {n2} {t}"))
+    let [key, nonce, start, mut text] = fields(given, ORDER)?;
+    let start = u64::from_be_bytes(start.try_into().ok()?);
+    let mut after = || {
+        let Streamed { number, next } = stream(&key, &nonce, start, &mut text);
+        format!("{number} {next:016x} {}", print_field(&text, ORDER))
+    };
+    Some([after(), after()].join(" "))
 }
 
 #[cfg(test)]
@@ -253,7 +283,8 @@ mod tests {
     fn published_lines_are_answered_as_published() {
         for (line, published) in lines().iter().zip(&PUBLISHED) {
             let text = print_field(published.text, ORDER);
-            let expected = format!("0 {} 0 {text}", published.result);
+            let next = print_field(&published.next.to_be_bytes(), ORDER);
+            let expected = format!("0 {next} {} 0 {next} {text}", published.result);
             assert_eq!(answer(line.as_bytes()), expected, "{}", published.place);
         }
     }
@@ -261,38 +292,65 @@ mod tests {
     #[test]
     fn every_number_comes_as_often_as_it_was_meant_to() {
         let lines = lines();
-        assert_eq!(answered(&lines, 0), 9 + 10 + 6);
+        assert_eq!(answered(&lines, 0), 9 + 10 + 6 + 1);
         assert_eq!(answered(&lines, 1), 20 + 3);
         assert_eq!(answered(&lines, 2), 4 + 1);
-        assert_eq!(answered(&lines, 8), 2);
-        assert_eq!(lines.len(), 25 + 23 + 5 + 2);
+        assert_eq!(answered(&lines, 8), 2 + 6);
+        assert_eq!(lines.len(), 26 + 23 + 5 + 8);
     }
 
     #[test]
-    fn start_is_a_number_of_four_bytes_high_byte_first() {
+    fn start_is_a_number_of_eight_bytes_high_byte_first() {
         let (key, nonce) = ("00".repeat(32), "00".repeat(12));
         let front = |start: &str| {
             let line = format!("chacha {key} {nonce} {start} 0000000000");
             answer(line.as_bytes())
         };
         // RFC 7539, appendix A.1, #1 and #2.
-        assert_eq!(front("00000000"), "0 76b8e0ada0 0 0000000000");
-        assert_eq!(front("00000001"), "0 9f07e7be55 0 0000000000");
-        for start in ["-", "00", "000001", "0000000001"] {
-            assert_eq!(front(start), "bad line");
+        let [one, two] = ["0000000000000001", "0000000000000002"];
+        let expected = format!("0 {one} 76b8e0ada0 0 {one} 0000000000");
+        assert_eq!(front("0000000000000000"), expected);
+        let expected = format!("0 {two} 9f07e7be55 0 {two} 0000000000");
+        assert_eq!(front("0000000000000001"), expected);
+        let high = "0102030405060708";
+        let expected = format!("8 {high} 0000000000 8 {high} 0000000000");
+        assert_eq!(front(high), expected);
+        for len in (0..16).filter(|&len| len != 8) {
+            let start = print_field(&vec![0; len], ORDER);
+            assert_eq!(front(&start), "bad line", "{len}");
         }
     }
 
     #[test]
-    fn refused_lines_show_the_text_unchanged() {
-        assert_eq!(answer(b"chacha 01 - ffffffff 0203"), "1 0203 1 0203");
+    fn refused_lines_show_start_and_text_unchanged() {
+        let start = "00000000ffffffff";
+        let line = format!("chacha 01 - {start} 0203");
+        let expected = format!("1 {start} 0203 1 {start} 0203");
+        assert_eq!(answer(line.as_bytes()), expected);
         let key = "00".repeat(32);
         let text = "ab".repeat(65);
-        let refused = |nonce: &str| {
-            let line = format!("chacha {key} {nonce} ffffffff {text}");
-            answer(line.as_bytes())
+        let refused = |nonce: &str, number: u32| {
+            let line = format!("chacha {key} {nonce} {start} {text}");
+            let expected = format!("{number} {start} {text} {number} {start} {text}");
+            assert_eq!(answer(line.as_bytes()), expected);
         };
-        assert_eq!(refused("-"), format!("2 {text} 2 {text}"));
-        assert_eq!(refused(&"00".repeat(12)), format!("8 {text} 8 {text}"));
+        refused("-", 2);
+        refused(&"00".repeat(12), 8);
+    }
+
+    #[test]
+    fn wide_starts_are_done_for_an_empty_text_at_2_to_the_32_only() {
+        let lines = lines();
+        let answers: Vec<String> = lines[lines.len() - 7..]
+            .iter()
+            .map(|line| answer(line.as_bytes()))
+            .collect();
+        assert_eq!(answers[0], "0 0000000100000000 - 0 0000000100000000 -");
+        assert!(answers[1].starts_with("8 0000000100000000 "));
+        assert_eq!(answers[2], "8 0000000100000001 - 8 0000000100000001 -");
+        assert_eq!(answers[3], "8 ffffffffffffffff - 8 ffffffffffffffff -");
+        assert!(answers[4].starts_with("8 ffffffffffffffff "));
+        assert!(answers[5].starts_with("8 8000000000000000 "));
+        assert!(answers[6].starts_with("8 0102030405060708 "));
     }
 }

@@ -8,7 +8,7 @@ use crate::random::Random;
 /// so the fields are short; each has a letter, which has an upper case.
 const WELL_FORMED: [(&[&str], usize); 4] = [
     (&["gift", "0b", "abcd"], 1),
-    (&["chacha", "0b", "abcd", "0000000b", "ef"], 4),
+    (&["chacha", "0b", "abcd", "000000000000000b", "ef"], 4),
     (&["blake", "0b", "abcd", "0b"], 2),
     (&["lioness", "0b", "abcd", "ef"], 3),
 ];
@@ -101,7 +101,16 @@ fn bad_digit_lines() -> Vec<String> {
 
 /// Numbers that do not have the length of theirs.
 fn bad_number_lines() -> Vec<String> {
-    let start = ["-", "0b", "00000b", "000000000b"].map(|n| format!("chacha 0b abcd {n} ef"));
+    let start = [
+        "-",
+        "0b",
+        "00000b",
+        "0000000b",
+        "000000000b",
+        "0000000000000b",
+        "00000000000000000b",
+    ]
+    .map(|n| format!("chacha 0b abcd {n} ef"));
     let room_len = ["-", "000b"].map(|n| format!("blake 0b abcd {n}"));
     [&start[..], &room_len].concat()
 }

@@ -85,7 +85,7 @@ mod tests {
     #[test]
     fn cases_fit_the_buffer_and_none_comes_twice() {
         let cases = cases();
-        assert!(cases.len() < 60_000, "{}", cases.len());
+        assert!(cases.len() < 65_536, "{}", cases.len());
         let mut lines = lines::lines(cases.as_bytes());
         let all = lines.len();
         lines.sort_unstable();

@@ -4,15 +4,18 @@
 //! A line has fields with one space between two of them: words, decimal numbers
 //! and byte strings, these as the comparison program shows them with byte 0
 //! first. The lines of HyENA come first, then those of drawers, then those of
-//! key books. Lesson packs have lines of their own, which another command prints.
+//! key books, then those of the key stream. Lesson packs have lines of their own,
+//! which another command prints.
 
 mod books;
 mod cards;
 mod drawers;
 mod packs;
+mod streams;
 
 /// The bytes that everything read is filled with. Keys, nonces, associated data
-/// and texts have the salts 1 to 4, this term's book 5 and last term's 6.
+/// and texts have the salts 1 to 4, this term's book 5 and last term's 6, the
+/// key, nonce and text of a key stream 7 to 9.
 fn filled(salt: usize, len: usize) -> Vec<u8> {
     (0..len)
         .map(|i| ((salt + 29 * i + 17 * (i / 256)) % 256) as u8)
@@ -26,7 +29,13 @@ fn text(lines: &[String]) -> String {
 
 /// What the command `edges` prints.
 pub fn edges() -> String {
-    text(&[cards::lines(), drawers::lines(), books::lines()].concat())
+    let lines = [
+        cards::lines(),
+        drawers::lines(),
+        books::lines(),
+        streams::lines(),
+    ];
+    text(&lines.concat())
 }
 
 /// What the command `packs` prints.
@@ -60,14 +69,15 @@ mod tests {
     }
 
     #[test]
-    fn cards_come_first_then_drawers_then_books() {
+    fn cards_come_first_then_drawers_then_books_then_streams() {
         let all = edges();
         let words: Vec<&str> = all.lines().map(|line| fields(line)[0]).collect();
-        assert_eq!(words.len(), 278 + 48 + 676);
+        assert_eq!(words.len(), 278 + 48 + 676 + 108);
         assert!(words[..274].iter().all(|word| word.parse::<u32>().is_ok()));
         assert!(words[274..278].iter().all(|&word| word == "short"));
         assert!(words[278..326].iter().all(|&word| word == "draw"));
-        assert!(words[326..].iter().all(|&word| word == "key"));
+        assert!(words[326..1002].iter().all(|&word| word == "key"));
+        assert!(words[1002..].iter().all(|&word| word == "stream"));
         assert!(all.ends_with('\n'));
     }
 }
