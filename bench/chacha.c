@@ -16,7 +16,8 @@ static void archive(uint8_t *text, size_t len)
 {
     expect(ARCHIVE, VESPRULDO_DONE,
            vespruldo_chacha20(key, sizeof key, nonce, sizeof nonce, START,
-                              text, len));
+                              text, len)
+               .number);
 }
 
 static void plain(uint8_t *text, size_t len)

@@ -54,11 +54,12 @@ extern "C" {
 
 /* The version of this header: 10000 * major + 100 * minor + patch, and as a
    text. vespruldo_version answers the archive's. */
-#define VESPRULDO_VERSION 300
-#define VESPRULDO_VERSION_TEXT "0.3.0"
+#define VESPRULDO_VERSION 400
+#define VESPRULDO_VERSION_TEXT "0.4.0"
 
 /* Lengths in bytes: _BYTES is the only one allowed, _MIN and _MAX are the least
-   and the greatest, _EXTRA is what a card has besides its ciphertext. */
+   and the greatest, _EXTRA is what a card has besides its ciphertext. A text of
+   ChaCha20 need not have whole blocks. */
 #define VESPRULDO_KEY_BYTES 16 /* for sealing, opening and GIFT-128 */
 #define VESPRULDO_NONCE_BYTES 12
 #define VESPRULDO_TAG_BYTES 16
@@ -71,6 +72,7 @@ extern "C" {
 #define VESPRULDO_GIFT_BLOCK_BYTES 16
 #define VESPRULDO_CHACHA20_KEY_BYTES 32
 #define VESPRULDO_CHACHA20_NONCE_BYTES 12
+#define VESPRULDO_CHACHA20_BLOCK_BYTES 64
 #define VESPRULDO_BLAKE2B_KEY_MAX 64
 #define VESPRULDO_BLAKE2B_DIGEST_MIN 1
 #define VESPRULDO_BLAKE2B_DIGEST_MAX 64
@@ -195,12 +197,12 @@ uint32_t vespruldo_version(void);
    in the archive's place defines this one too. Into a shared library the
    archive is linked with -Wl,--exclude-libs,libvespruldo.a, or its functions
    could be taken for those of another library's archive. */
-#define VESPRULDO_INTERFACE 1
-uint32_t vespruldo_interface_1(void);
+#define VESPRULDO_INTERFACE 2
+uint32_t vespruldo_interface_2(void);
 
 #if defined(__GNUC__)
 VESPRULDO_KEPT
-static uint32_t (*const vespruldo_asks_for)(void) = vespruldo_interface_1;
+static uint32_t (*const vespruldo_asks_for)(void) = vespruldo_interface_2;
 #endif
 
 /* ---- Cards: HyENA over GIFT-128 ---- */
@@ -495,18 +497,6 @@ typedef struct vespruldo_pack_judged {
     size_t bad;      /* of BAD_SHUFFLE: which entry, from 0, is the first bad */
 } vespruldo_pack_judged;
 
-/* Does not compile where a `#pragma pack` that was left open, or an option, has
-   packed the structs, which would then lie elsewhere than in the archive. */
-typedef char vespruldo_structs_are_not_packed
-    [sizeof(vespruldo_drawer) == 16 && sizeof(vespruldo_drawn) == 32 &&
-             sizeof(vespruldo_drawn_iv) == 72 &&
-             sizeof(vespruldo_stored) == 44 && sizeof(vespruldo_loaded) == 24 &&
-             sizeof(vespruldo_found) == 16 &&
-             sizeof(vespruldo_pack_card) == 40 &&
-             sizeof(vespruldo_pack_judged) == 24
-         ? 1
-         : -1];
-
 /* The next card. A reader holds a pack and its place, how many cards have been
    given: it starts at 0 and goes on at `next`.
 
@@ -589,19 +579,38 @@ uint32_t vespruldo_gift_decipher(const uint8_t *key, size_t key_len,
                                  uint8_t *VESPRULDO_RESTRICT block,
                                  size_t block_len);
 
+/* What a key stream answers. Where it is kept, keep all 64 bits of `next`, and
+   not the bytes of the struct, whose padding holds what was in memory. */
+typedef struct vespruldo_streamed {
+    uint32_t number; /* DONE or the refusal */
+    uint64_t next;   /* where it stopped: start plus blocks used, at most 2^32;
+                        of a refusal, the start */
+} vespruldo_streamed;
+
 /* Adds ChaCha20's key stream to a text in place, by exclusive or; done twice,
-   it gives the text back. `start` is the counter of the stream's first block of
-   64 bytes. Never use one key, nonce and counter for two texts.
+   from the same start, it gives the text back. `start` is the counter of the
+   stream's first block of 64 bytes. Never use one key, nonce and counter for
+   two texts, even if the first was lost. There is no tag: a bit that is flipped
+   afterwards is flipped in the text that comes back.
+
+   A text may come in bursts, and may then be longer than one call takes. Each
+   burst but the last has whole blocks, and each starts at the `next` of the one
+   before: so they are one text, which is given back in these bursts or in
+   others (examples/recorder.c). A burst that ends inside a block is the last:
+   what came behind it would come back only if it were cut there again, and
+   otherwise as noise.
 
    Refusals: KEY_LENGTH (key not 32 bytes), NONCE_LENGTH (nonce not 12),
    TEXT_LENGTH (over 1,048,576), STREAM_TOO_LONG (start plus the blocks needed
-   exceeds 2^32). */
+   exceeds 2^32). At a start of 2^32 an empty text is done and any other is
+   refused; above that every text is, an empty one too. */
 VESPRULDO_LOOK_AT_ANSWER
 VESPRULDO_READS(1, 2) VESPRULDO_READS(3, 4) VESPRULDO_CHANGES(6, 7)
-uint32_t vespruldo_chacha20(const uint8_t *key, size_t key_len,
-                            const uint8_t *nonce, size_t nonce_len,
-                            uint32_t start,
-                            uint8_t *VESPRULDO_RESTRICT text, size_t text_len);
+vespruldo_streamed vespruldo_chacha20(const uint8_t *key, size_t key_len,
+                                      const uint8_t *nonce, size_t nonce_len,
+                                      uint64_t start,
+                                      uint8_t *VESPRULDO_RESTRICT text,
+                                      size_t text_len);
 
 /* Writes the BLAKE2b digest of `text` under `key` to `digest` and fills it: the
    digest has the length of its room, and a shorter one is not the beginning of
@@ -624,6 +633,19 @@ VESPRULDO_LOOK_AT_ANSWER
 VESPRULDO_READS(1, 2) VESPRULDO_READS(3, 4)
 bool vespruldo_same(const uint8_t *a, size_t a_len,
                     const uint8_t *b, size_t b_len);
+
+/* Does not compile where a `#pragma pack` that was left open, or an option, has
+   packed the structs, which would then lie elsewhere than in the archive. */
+typedef char vespruldo_structs_are_not_packed
+    [sizeof(vespruldo_drawer) == 16 && sizeof(vespruldo_drawn) == 32 &&
+             sizeof(vespruldo_drawn_iv) == 72 &&
+             sizeof(vespruldo_stored) == 44 && sizeof(vespruldo_loaded) == 24 &&
+             sizeof(vespruldo_found) == 16 &&
+             sizeof(vespruldo_pack_card) == 40 &&
+             sizeof(vespruldo_pack_judged) == 24 &&
+             sizeof(vespruldo_streamed) == 16
+         ? 1
+         : -1];
 
 #ifdef __cplusplus
 }

@@ -92,7 +92,8 @@ static void must_be_marked(const char *function, const uint8_t *bytes,
 
 static uint8_t key[LONGEST], nonce[LONGEST], data[LONGEST], text[LONGEST];
 static uint8_t ciphertext[LONGEST], tag[LONGEST], room[LONGEST];
-static uint32_t start;
+/* Of a key stream: its start, and where the last one stopped. */
+static uint64_t start, stopped;
 
 /* A card begins with the nonce and the text's length. */
 static uint8_t card[LONGEST];
@@ -177,7 +178,10 @@ static uint32_t gift_decipher(struct lengths n)
 
 static uint32_t chacha20(struct lengths n)
 {
-    return vespruldo_chacha20(key, n.key, nonce, n.nonce, start, text, n.text);
+    vespruldo_streamed streamed = vespruldo_chacha20(
+        key, n.key, nonce, n.nonce, start, text, n.text);
+    stopped = streamed.next;
+    return streamed.number;
 }
 
 static uint32_t blake2b(struct lengths n)
@@ -331,6 +335,23 @@ static void check_cards(size_t data_len, size_t len)
     check_whole_cards(data_len, len);
 }
 
+/* Where a key stream stops is told by its start and lengths alone: with all
+   else marked, no bit of that is. Whoever keeps it gives nothing else away. */
+static void check_stopped(struct lengths n, uint32_t wanted, uint64_t next)
+{
+    mark_all();
+    VALGRIND_MAKE_MEM_DEFINED(&start, sizeof start);
+    begin();
+    uint32_t number = chacha20(n);
+    (void)VALGRIND_CHECK_MEM_IS_DEFINED(&stopped, sizeof stopped);
+    end(f_chacha20.name, number, wanted, &none);
+    VALGRIND_MAKE_MEM_DEFINED(&stopped, sizeof stopped);
+    if (stopped != next) {
+        printf("%s: stopped at another counter\n", f_chacha20.name);
+        failed = true;
+    }
+}
+
 static void check_others(size_t len)
 {
     struct lengths stream = {.key = VESPRULDO_CHACHA20_KEY_BYTES,
@@ -338,6 +359,7 @@ static void check_others(size_t len)
                              .text = len};
     start = 7;
     check_done(&f_chacha20, stream);
+    check_stopped(stream, VESPRULDO_DONE, start + (len + 63) / 64);
 
     struct lengths digest = {
         .key = 44, .text = len, .room = VESPRULDO_BLAKE2B_DIGEST_MAX};
@@ -438,9 +460,34 @@ static void check_refusals(void)
     for (size_t i = 0; i < COUNT(cases); i++) {
         check(cases[i].function, cases[i].n, cases[i].number, &none);
     }
-    struct lengths two_blocks = {.key = 32, .nonce = 12, .text = 65};
-    start = UINT32_MAX;
-    check(&f_chacha20, two_blocks, VESPRULDO_STREAM_TOO_LONG, &ending);
+}
+
+/* Round the end of the counters, and far behind it: whether it is done or
+   refused, each call has the one place that depends on the start. */
+static void check_endings(void)
+{
+    static const struct {
+        uint64_t start;
+        size_t len;
+        uint32_t number;
+    } cases[] = {
+        {UINT32_MAX, 64, 0},
+        {UINT32_MAX, 65, 8},
+        {(uint64_t)UINT32_MAX + 1, 0, 0},
+        {(uint64_t)UINT32_MAX + 1, 1, 8},
+        {(uint64_t)UINT32_MAX + 2, 0, 8},
+        {(uint64_t)UINT32_MAX + 2, 65, 8},
+        {UINT64_MAX, 0, 8},
+        {UINT64_MAX, 1, 8},
+    };
+    for (size_t i = 0; i < COUNT(cases); i++) {
+        struct lengths n = {.key = 32, .nonce = 12, .text = cases[i].len};
+        uint64_t blocks = (cases[i].len + 63) / 64;
+        start = cases[i].start;
+        check(&f_chacha20, n, cases[i].number, &ending);
+        check_stopped(n, cases[i].number,
+                      cases[i].start + (cases[i].number == 0 ? blocks : 0));
+    }
 }
 
 /* ---- Comparing ---- */
@@ -616,7 +663,7 @@ static void check_version(void)
     begin();
     end("vespruldo_version", vespruldo_version(), VESPRULDO_VERSION, &none);
     begin();
-    end("vespruldo_interface_1", vespruldo_interface_1(), VESPRULDO_INTERFACE,
+    end("vespruldo_interface_2", vespruldo_interface_2(), VESPRULDO_INTERFACE,
         &none);
 }
 
@@ -662,6 +709,7 @@ int main(void)
     calls = 0;
     check_buffers();
     check_refusals();
+    check_endings();
     check_comparing();
     check_draws(5, VESPRULDO_DONE);
     check_draws(UINT64_MAX, VESPRULDO_DRAWER_SPENT);

@@ -108,7 +108,9 @@ static uint32_t run_gift_decipher(struct call *call)
 
 static uint32_t run_chacha20(struct call *call)
 {
-    return vespruldo_chacha20(LENT(KEY), LENT(NONCE), call->start, LENT(TEXT));
+    call->streamed = vespruldo_chacha20(LENT(KEY), LENT(NONCE), call->start,
+                                        LENT(TEXT));
+    return call->streamed.number;
 }
 
 static uint32_t run_blake2b(struct call *call)
@@ -126,10 +128,35 @@ static uint32_t opening_number(const struct call *call)
     return call->opens ? 0 : 7;
 }
 
+static uint64_t blocks_used(const struct call *call)
+{
+    return (call->loans[TEXT].len + 63) / 64;
+}
+
+/* "at 2^32 an empty text is done and any other is refused with 8; above 2^32
+   every text is, the empty one too." The blocks are compared with the counters
+   that are left, since start plus blocks could go round. */
 static uint32_t stream_number(const struct call *call)
 {
-    uint64_t blocks = (call->loans[TEXT].len + 63) / 64;
-    return call->start + blocks > (uint64_t)1 << 32 ? 8 : 0;
+    if (call->start > COUNTERS) {
+        return 8;
+    }
+    return blocks_used(call) > COUNTERS - call->start ? 8 : 0;
+}
+
+/* "beside 0, start plus blocks used, which may be 2^32"; "A refusal answers the
+   start." With 0 the sum is at most 2^32. */
+static void check_next(const struct thread *thread, const struct call *call)
+{
+    uint64_t right = call->streamed.number == 0
+                         ? call->start + blocks_used(call)
+                         : call->start;
+    if (call->streamed.next != right) {
+        fail(thread,
+             "from %" PRIu64 " on, with answer %" PRIu32
+             ", it stopped at %" PRIu64 ", not %" PRIu64,
+             call->start, call->streamed.number, call->streamed.next, right);
+    }
 }
 
 static uint32_t find_number(const struct call *call)
@@ -253,7 +280,8 @@ const struct function functions[FUNCTIONS] = {
                        .part_count = 2, .parts = GIFT_PARTS,
                        .undone_by = &functions[GIFT_ENCIPHER]},
     [CHACHA20] = {.name = "vespruldo_chacha20", .run = run_chacha20,
-                  .number = stream_number, .refusals = {8},
+                  .number = stream_number, .check_rest = check_next,
+                  .refusals = {8},
                   .part_count = 3,
                   .parts = {PART(KEY, READ, 32, 32, 1), CARD_NONCE,
                             CARD_TEXT(CHANGED)},
@@ -266,7 +294,7 @@ const struct function functions[FUNCTIONS] = {
               .number = same_number, .refusals = {1},
               .part_count = 2, .parts = {ANY(ONE), ANY(OTHER)}},
     [VERSION] = {.name = "vespruldo_version"},
-    [INTERFACE] = {.name = "vespruldo_interface_1"},
+    [INTERFACE] = {.name = "vespruldo_interface_2"},
 };
 
 static const char *const role_names[ROLES] = {
@@ -497,6 +525,9 @@ uint32_t make_call(struct thread *thread, struct call *call)
                                                   : function->run(call);
     if (number != asked_for) {
         fail(thread, "answered %" PRIu32 ", not %" PRIu32, number, asked_for);
+    }
+    if (function->check_rest != NULL) {
+        function->check_rest(thread, call);
     }
     for (size_t p = 0; p < function->part_count; p++) {
         check_part(thread, call, &function->parts[p], number);

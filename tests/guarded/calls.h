@@ -48,6 +48,7 @@ enum function_name {
 };
 
 struct call;
+struct thread;
 
 struct function {
     const char *name;
@@ -55,6 +56,9 @@ struct function {
     uint32_t (*run)(struct call *call);
     /* The number where all lengths are allowed, unless that is always 0. */
     uint32_t (*number)(const struct call *call);
+    /* Fails unless the rest of the answer is right too, where there is one that
+       every call must have. */
+    void (*check_rest)(const struct thread *thread, const struct call *call);
     size_t part_count;
     /* In the order of their refusals. */
     struct part parts[6];
@@ -76,16 +80,20 @@ extern const struct function functions[FUNCTIONS];
 /* All numbers are smaller. */
 #define NUMBERS 107
 
+/* How many counters a key stream has: they go from 0 to 2^32 - 1. */
+#define COUNTERS ((uint64_t)1 << 32)
+
 struct call {
     const struct function *function;
     struct loan loans[ROLES];
-    uint32_t start;
+    uint64_t start;
     uint16_t class_number;
     size_t place;
     /* What is to be opened was sealed so; what is to be loaded, stored so. */
     bool opens;
     vespruldo_found found;
     vespruldo_loaded loaded;
+    vespruldo_streamed streamed;
     vespruldo_pack_card card;
     vespruldo_pack_judged judged;
 };

@@ -9,7 +9,7 @@
    bring every number, which main.c counts on. */
 #define LONG_EVERY 250
 /* From here the key stream for the longest text ends with the last counter. */
-#define LAST_LONG_START (UINT32_MAX - 1048576 / 64 + 1)
+#define LAST_LONG_START (COUNTERS - 1048576 / 64)
 /* What a wide block has before its right part, and the nonce of one step. */
 #define LEFT 32
 #define STEP_NONCE 12
@@ -111,14 +111,31 @@ static void lend_parts(struct thread *thread, struct call *call,
     }
 }
 
-/* Often where the counter ends. */
-static uint32_t random_start(struct random *random)
+/* Half of them where the counters end, or would just do for the text. Others
+   are where a number with a sign would be below 0, where a sum with the blocks
+   would go round, at the beginning, or anywhere. */
+static uint64_t random_start(struct random *random, size_t text_len)
 {
-    if (one_in(random, 2)) {
-        return UINT32_MAX - (uint32_t)random_below(random, 4);
+    uint64_t few = random_below(random, 5);
+    switch (random_below(random, 10)) {
+    case 0:
+    case 1:
+        return COUNTERS - 2 + few;
+    case 2:
+    case 3:
+    case 4:
+        return COUNTERS - (text_len + 63) / 64 - 3 + few;
+    case 5:
+        return ((uint64_t)1 << 63) - 2 + few;
+    case 6:
+        return UINT64_MAX - few;
+    case 7:
+        return few;
+    case 8:
+        return random_word(random);
+    default:
+        return random_word(random) % COUNTERS;
     }
-    return one_in(random, 2) ? (uint32_t)random_below(random, 2)
-                             : (uint32_t)random_word(random);
 }
 
 const uint8_t *given(const struct call *call, enum role role)
@@ -228,29 +245,45 @@ static void check_undone(struct thread *thread, const struct call *first)
             "did not give back what was there");
 }
 
-/* Makes a call for a piece of the text, with the counter of its first block. */
-static void check_piece(struct thread *thread, const struct call *whole,
-                        size_t from, size_t len)
+/* Makes a call for a piece of the text, from this counter on, and answers where
+   it stopped. */
+static uint64_t check_piece(struct thread *thread, const struct call *whole,
+                            uint64_t start, size_t from, size_t len)
 {
     struct call piece = second_call(thread, whole, whole->function);
-    piece.start = whole->start + (uint32_t)(from / 64);
+    piece.start = start;
     lend_copy(thread, &piece, SECOND, TEXT, given(whole, TEXT) + from, len);
-    make_call(thread, &piece);
+    require(thread, make_call(thread, &piece) == 0,
+            "cut after whole blocks, the key stream is refused");
     require(thread,
             memcmp(piece.loans[TEXT].place, whole->loans[TEXT].place + from,
                    len) == 0,
             "cut after whole blocks, the key stream is another");
+    return piece.streamed.next;
 }
 
-static void check_cut(struct thread *thread, const struct call *whole)
+/* "Where one call is done, cutting it after whole 64-byte blocks into two gives
+   the same": the second starts where the first stopped. */
+static void check_cut(struct thread *thread, const struct call *whole,
+                      size_t blocks)
 {
     size_t len = whole->loans[TEXT].len;
-    if (len > 0) {
-        /* Before the last block at the latest, which has a counter. */
-        size_t cut = 64 * random_below(&thread->random, (len + 63) / 64);
-        check_piece(thread, whole, 0, cut);
-        check_piece(thread, whole, cut, len - cut);
-    }
+    size_t cut = 64 * blocks;
+    uint64_t next = check_piece(thread, whole, whole->start, 0, cut);
+    next = check_piece(thread, whole, next, cut, len - cut);
+    thread->running = whole;
+    require(thread, next == whole->streamed.next,
+            "cut after whole blocks, the key stream stops elsewhere");
+}
+
+/* Before the first block, behind the last whole one, and somewhere: one piece
+   or both may be empty, the second with all counters used. */
+static void check_cuts(struct thread *thread, const struct call *whole)
+{
+    size_t most = whole->loans[TEXT].len / 64;
+    check_cut(thread, whole, 0);
+    check_cut(thread, whole, most);
+    check_cut(thread, whole, random_below(&thread->random, most + 1));
 }
 
 /* Steps 1 and 3 of document 01, LIONESS, by a call of their own; `part` counts
@@ -328,7 +361,7 @@ static void check_done(struct thread *thread, const struct call *call)
         check_as_seal(thread, call);
     }
     if (function == &functions[CHACHA20]) {
-        check_cut(thread, call);
+        check_cuts(thread, call);
     }
     if (is_wide(function)) {
         check_steps(thread, call);
@@ -341,7 +374,8 @@ void buffer_case(struct thread *thread, enum function_name name,
     struct call call = {.function = &functions[name]};
     lend_parts(thread, &call, long_turn);
     call.start = long_turn > 0 ? LAST_LONG_START
-                               : random_start(&thread->random);
+                               : random_start(&thread->random,
+                                              call.loans[TEXT].len);
     if (make_call(thread, &call) == 0) {
         /* Repeating a long call takes long and shows nothing new. */
         if (long_turn == 0) {

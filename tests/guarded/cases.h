@@ -16,6 +16,10 @@ void check_worked_packs(struct thread *thread);
 void check_cut_packs(struct thread *thread);
 void check_shuffles(struct thread *thread);
 
+/* The same for key streams: where they stop, and which are refused, as worked
+   out by hand. */
+void check_worked_streams(struct thread *thread);
+
 /* Makes the case that the thread's seed and this number give. */
 void make_case(struct thread *thread, uint64_t case_number);
 

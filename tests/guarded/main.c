@@ -67,6 +67,7 @@ static void *run_thread(void *argument)
     check_worked_packs(thread);
     check_cut_packs(thread);
     check_shuffles(thread);
+    check_worked_streams(thread);
     for (uint64_t n = thread->number; n < cases; n += thread_count) {
         make_case(thread, n);
     }

@@ -88,7 +88,7 @@ void header_case(struct thread *thread)
 
     const struct call interface = {.function = &functions[INTERFACE]};
     thread->running = &interface;
-    require(thread, vespruldo_interface_1() == VESPRULDO_INTERFACE,
+    require(thread, vespruldo_interface_2() == VESPRULDO_INTERFACE,
             "not the header's number");
     count(thread, INTERFACE, 0);
     check_words(thread);

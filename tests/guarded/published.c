@@ -10,7 +10,7 @@ struct published {
     const char *source;
     /* In hexadecimal digits; NULL where the function has no such buffer. */
     const char *given[ROLES];
-    uint32_t start;
+    uint64_t start;
     enum role result_role;
     const char *result;
 };
@@ -53,6 +53,17 @@ static const struct published table[] = {
                "52bc514d16ccf806818ce91ab7793736"
                "5af90bbf74a35be6b40b8eedf2785e42"
                "874d"},
+    {.name = CHACHA20, .source = "the last counter, by libsodium and OpenSSL",
+     .given = {[KEY] = "000102030405060708090a0b0c0d0e0f"
+                       "101112131415161718191a1b1c1d1e1f",
+               [NONCE] = "000000000000004a00000000",
+               [TEXT] = ZEROS_16 ZEROS_16 ZEROS_16 ZEROS_16},
+     .start = 0xffffffff,
+     .result_role = TEXT,
+     .result = "6d29da5bd16a472910e8c0bdb47edfc8"
+               "499c3222cc168d3721747fc2b21266d9"
+               "f15c8339f10f354d16cc9b8e118eb182"
+               "bf858ce5718fa4e76389ea4eb50a9475"},
 };
 
 /* Reader 4275878552 at count 81985529216486895, stored; the digest is by

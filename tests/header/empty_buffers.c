@@ -6,6 +6,7 @@
 
 static const uint8_t key[VESPRULDO_KEY_BYTES] = {1};
 static const uint8_t nonce[VESPRULDO_NONCE_BYTES] = {2};
+static const uint8_t stream_key[VESPRULDO_CHACHA20_KEY_BYTES] = {3};
 static int bad;
 
 static void is(const char *what, uint32_t expected, uint32_t came)
@@ -51,6 +52,24 @@ static void sealing(void)
        vespruldo_card_open(key, sizeof key, NULL, 0, NULL, 0, NULL, 0));
 }
 
+/* An empty text uses no counter: it can come where all are used up, but not
+   beyond that. */
+static void streaming(void)
+{
+    const uint64_t used_up = (uint64_t)1 << 32;
+    is("chacha20", VESPRULDO_KEY_LENGTH,
+       vespruldo_chacha20(NULL, 0, NULL, 0, 0, NULL, 0).number);
+    vespruldo_streamed streamed =
+        vespruldo_chacha20(stream_key, sizeof stream_key, nonce, sizeof nonce,
+                           used_up, NULL, 0);
+    is("chacha20 at 2^32", VESPRULDO_DONE, streamed.number);
+    is("chacha20 at 2^32, next", 1, streamed.next == used_up);
+    streamed = vespruldo_chacha20(stream_key, sizeof stream_key, nonce,
+                                  sizeof nonce, used_up + 1, NULL, 0);
+    is("chacha20 above 2^32", VESPRULDO_STREAM_TOO_LONG, streamed.number);
+    is("chacha20 above 2^32, next", 1, streamed.next == used_up + 1);
+}
+
 static void others(void)
 {
     uint8_t digest[VESPRULDO_BLAKE2B_DIGEST_MAX];
@@ -58,8 +77,6 @@ static void others(void)
        vespruldo_gift_encipher(NULL, 0, NULL, 0));
     is("gift_decipher", VESPRULDO_TEXT_LENGTH,
        vespruldo_gift_decipher(key, sizeof key, NULL, 0));
-    is("chacha20", VESPRULDO_KEY_LENGTH,
-       vespruldo_chacha20(NULL, 0, NULL, 0, 0, NULL, 0));
     is("blake2b", VESPRULDO_DONE,
        vespruldo_blake2b(NULL, 0, NULL, 0, digest, sizeof digest));
     is("lioness_encipher", VESPRULDO_KEY_LENGTH,
@@ -89,6 +106,7 @@ static void others(void)
 int main(void)
 {
     sealing();
+    streaming();
     others();
     return bad;
 }

@@ -3,7 +3,7 @@
 
 #include <vespruldo.h>
 
-extern const uint8_t key[16], nonce[12];
+extern const uint8_t key[16], nonce[12], stream_key[32];
 extern uint8_t tag[16], small[20], *text;
 extern size_t len;
 
@@ -58,5 +58,15 @@ uint32_t called(void)
 #elif MISTAKE == 13 /* nonnull */
     /* There is no pack at all. */
     return vespruldo_pack_judge(NULL, 20).number;
+#elif MISTAKE == 14 /* unused-result */
+    /* Nobody asks where the key stream stopped, or whether it began. */
+    vespruldo_chacha20(stream_key, 32, nonce, 12, 0, text, len);
+    return 0;
+#elif MISTAKE == 15 /* stringop-overflow= */
+    /* The text has fewer bytes than are said. */
+    return vespruldo_chacha20(stream_key, 32, nonce, 12, 0, small, 21).number;
+#elif MISTAKE == 16 /* stringop-overread */
+    /* So has the key. */
+    return vespruldo_chacha20(key, 32, nonce, 12, 0, text, len).number;
 #endif
 }
