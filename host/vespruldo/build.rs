@@ -12,7 +12,7 @@ const DIR_VARIABLE: &str = "VESPRULDO_LIB_DIR";
 /// An archive defines a function of this name and the number of its interface,
 /// which is counted up when a signature or a struct changes.
 const INTERFACE_NAME: &str = "vespruldo_interface_";
-const INTERFACE: &str = "1";
+const INTERFACE: &str = "2";
 
 /// Systems whose calls or whose files of machine code are others than those of
 /// the archive: System V's calls, in ELF.

@@ -2,9 +2,11 @@
 //! and OpenSSL.
 
 use outside::{openssl, sodium};
+use second::chacha::{stream, Streamed};
 use second::random::Random;
 
-/// All four on one random-looking key, nonce and text.
+/// All four on one random-looking key, nonce and text, and where the two that
+/// tell it stopped.
 fn compare(random: &mut Random, start: u32, text_len: usize) {
     let mut key = [0; 32];
     let mut nonce = [0; 12];
@@ -13,11 +15,11 @@ fn compare(random: &mut Random, start: u32, text_len: usize) {
     let text = random.bytes(text_len);
 
     let [mut ours, mut seconds, mut sodiums, mut openssls] = [(); 4].map(|()| text.clone());
-    assert_eq!(
-        vespruldo::slices::chacha20(&key, &nonce, start, &mut ours),
-        Ok(())
-    );
-    assert_eq!(second::chacha::stream(&key, &nonce, start, &mut seconds), 0);
+    let next = u64::from(start) + text_len.div_ceil(64) as u64;
+    let stopped = vespruldo::slices::chacha20(&key, &nonce, start.into(), &mut ours);
+    assert_eq!(stopped, Ok(next));
+    let answer = stream(&key, &nonce, start.into(), &mut seconds);
+    assert_eq!(answer, Streamed { number: 0, next });
     sodium::chacha20(&key, &nonce, start, &mut sodiums);
     openssl::chacha20(&key, &nonce, start, &mut openssls);
 

@@ -70,6 +70,15 @@ pub struct PackJudged {
     pub bad: usize,
 }
 
+/// What a key stream answers: the document's number, and where it stopped, the
+/// start plus the blocks used; with a refusal the start.
+#[repr(C)]
+#[derive(Clone, Copy, Debug, PartialEq, Eq)]
+pub struct Streamed {
+    pub number: u32,
+    pub next: u64,
+}
+
 extern "C" {
     pub fn vespruldo_seal(
         key: *const u8,
@@ -186,10 +195,10 @@ extern "C" {
         key_len: usize,
         nonce: *const u8,
         nonce_len: usize,
-        start: u32,
+        start: u64,
         text: *mut u8,
         text_len: usize,
-    ) -> u32;
+    ) -> Streamed;
     pub fn vespruldo_blake2b(
         key: *const u8,
         key_len: usize,
@@ -230,5 +239,5 @@ extern "C" {
     pub fn vespruldo_pack_judge(pack: *const u8, pack_len: usize) -> PackJudged;
     pub fn vespruldo_same(a: *const u8, a_len: usize, b: *const u8, b_len: usize) -> bool;
     pub fn vespruldo_version() -> u32;
-    pub fn vespruldo_interface_1() -> u32;
+    pub fn vespruldo_interface_2() -> u32;
 }

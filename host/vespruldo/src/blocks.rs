@@ -1,7 +1,7 @@
-//! Blocks and texts that are changed in place: LIONESS, GIFT-128 and ChaCha20,
-//! with keys, nonces and ivs whose lengths are in their types.
+//! Blocks that are changed in place: LIONESS and GIFT-128, with keys and ivs whose
+//! lengths are in their types.
 
-use crate::bytes::{Iv, Key, Nonce, StreamKey, UsedIv, UsedNonce, WideKey};
+use crate::bytes::{Iv, Key, UsedIv, WideKey};
 use crate::refusal::Refusal;
 use crate::sizes::GIFT_BLOCK_BYTES;
 use crate::slices;
@@ -95,94 +95,10 @@ fn never_refused(result: Result<(), Refusal>) {
     }
 }
 
-/// Adds ChaCha20's key stream to `text` in place, by exclusive or, and hands the
-/// nonce back as a used one. The stream's blocks of 64 bytes are counted from
-/// `start`. The text is unchanged if this is refused.
-///
-/// No key, nonce and counter may be used for two texts, so the nonce goes for
-/// good, even if this is refused:
-///
-/// ```compile_fail,E0382
-/// # use vespruldo::{chacha20, Drawer, StreamKey};
-/// # let (mut drawer, key) = (Drawer::start(42, 0), StreamKey::from([1; 32]));
-/// # let (mut anna, mut bert) = (*b"Anna, desk 4", *b"Bert, desk 9");
-/// let nonce = drawer.draw()?;
-/// chacha20(&key, nonce, 0, &mut anna)?;
-/// chacha20(&key, nonce, 0, &mut bert)?;
-/// # Ok::<(), vespruldo::Refusal>(())
-/// ```
-///
-/// [`chacha20_again`] gives the text back. There is no tag: whoever flips a bit
-/// here flips it in the text.
-///
-/// ```
-/// use vespruldo::{chacha20, chacha20_again, Drawer, StreamKey};
-///
-/// let key = StreamKey::from([1; 32]);
-/// let mut text = *b"Anna, desk 4";
-/// let nonce = chacha20(&key, Drawer::start(42, 0).draw()?, 0, &mut text)?;
-/// assert_ne!(text, *b"Anna, desk 4");
-/// chacha20_again(&key, &nonce, 0, &mut text)?;
-/// assert_eq!(text, *b"Anna, desk 4");
-/// # Ok::<(), vespruldo::Refusal>(())
-/// ```
-///
-/// # Errors
-///
-/// The first of these that applies: [`Refusal::TextLength`] if the text is longer
-/// than 1,048,576 bytes, [`Refusal::StreamTooLong`] if `start` plus the blocks
-/// needed exceeds 2^32.
-pub fn chacha20(
-    key: &StreamKey,
-    nonce: Nonce,
-    start: u32,
-    text: &mut [u8],
-) -> Result<UsedNonce, Refusal> {
-    let nonce = UsedNonce::from(nonce);
-    chacha20_again(key, &nonce, start, text)?;
-    Ok(nonce)
-}
-
-/// [`chacha20`] under a nonce that was used before. It gives the text back, from
-/// the counter that it began at, and goes on with the next part of a long text,
-/// from the counter after the last block of the part before:
-///
-/// ```
-/// use vespruldo::{chacha20, chacha20_again, Drawer, StreamKey};
-///
-/// let key = StreamKey::from([1; 32]);
-/// let song = [7; 150];
-///
-/// // In parts of whole blocks, but for the last one: 128 bytes are two of them.
-/// let mut in_parts = song;
-/// let (first, last) = in_parts.split_at_mut(128);
-/// let nonce = chacha20(&key, Drawer::start(42, 0).draw()?, 0, first)?;
-/// chacha20_again(&key, &nonce, 2, last)?;
-///
-/// chacha20_again(&key, &nonce, 0, &mut in_parts)?;
-/// assert_eq!(in_parts, song);
-/// # Ok::<(), vespruldo::Refusal>(())
-/// ```
-///
-/// Which counters have been used is for the caller to know, and no type stops a
-/// second text under an old one.
-///
-/// # Errors
-///
-/// As for [`chacha20`].
-pub fn chacha20_again(
-    key: &StreamKey,
-    nonce: &UsedNonce,
-    start: u32,
-    text: &mut [u8],
-) -> Result<(), Refusal> {
-    slices::chacha20(key.as_bytes(), nonce.as_bytes(), start, text)
-}
-
 #[cfg(test)]
 mod tests {
     use super::*;
-    use crate::sizes::{LIONESS_BLOCK_MAX, LIONESS_BLOCK_MIN, TEXT_MAX};
+    use crate::sizes::{LIONESS_BLOCK_MAX, LIONESS_BLOCK_MIN};
 
     #[test]
     #[should_panic(expected = "the archive answered 4, which")]
@@ -190,7 +106,7 @@ mod tests {
         never_refused(Err(Refusal::TextLength));
     }
 
-    /// A function on a block or text.
+    /// A function on a block.
     type Tried<'a> = &'a dyn Fn(&mut [u8]) -> Result<(), Refusal>;
 
     /// Blocks of these lengths are changed, and of those refused and left.
@@ -220,29 +136,5 @@ mod tests {
         let decipher: Tried = &|block| lioness_decipher(&key, &UsedIv::from(iv), block);
         try_lens(encipher, &allowed, &refused);
         try_lens(decipher, &allowed, &refused);
-
-        let stream: Tried = &|text| stream(0, text);
-        try_lens(stream, &[16, TEXT_MAX], &[TEXT_MAX + 1]);
-        assert_eq!(stream(&mut []), Ok(()));
-    }
-
-    /// The key stream from this counter on, by a nonce and again by the used one.
-    fn stream(start: u32, text: &mut [u8]) -> Result<(), Refusal> {
-        let key = StreamKey::from([1; 32]);
-        let mut again = text.to_vec();
-        let refused = chacha20_again(&key, &UsedNonce::from([2; 12]), start, &mut again);
-        let used = chacha20(&key, Nonce::never_used([2; 12]), start, text);
-        assert_eq!(used, refused.map(|()| UsedNonce::from([2; 12])));
-        assert!(again == text, "start {start}");
-        refused
-    }
-
-    #[test]
-    fn counter_ends_where_the_document_says() {
-        let at_the_end = |text: &mut [u8]| stream(u32::MAX, text);
-        assert_eq!(at_the_end(&mut [7; 64]), Ok(()));
-        let mut text = [7; 65];
-        assert_eq!(at_the_end(&mut text), Err(Refusal::StreamTooLong));
-        assert_eq!(text, [7; 65]);
     }
 }

@@ -233,8 +233,9 @@ used_once! {
     /// ```
     ///
     /// So do [`seal_in_place`](crate::seal_in_place),
-    /// [`card_seal`](crate::card_seal) and [`chacha20`](crate::chacha20). What
-    /// comes back is a [`UsedNonce`], which seals nothing:
+    /// [`card_seal`](crate::card_seal) and
+    /// [`KeyStream::start`](crate::KeyStream::start). What comes back is a
+    /// [`UsedNonce`], which seals nothing:
     ///
     /// ```compile_fail,E0308
     /// # use vespruldo::{seal, Data, Drawer, Key};
@@ -265,7 +266,7 @@ used_once! {
     /// ```
     Nonce;
     /// The nonce that something was sealed with: 12 bytes, for opening only, and
-    /// for [`chacha20_again`](crate::chacha20_again). It is public, and may be
+    /// for [`KeyStream::again`](crate::KeyStream::again). It is public, and may be
     /// copied, compared and stored.
     ///
     /// ```
@@ -329,6 +330,7 @@ mod tests {
     use std::mem::{size_of, ManuallyDrop};
 
     use super::*;
+    use crate::stream::KeyStream;
 
     /// What lies where a secret lay, before and after it is dropped.
     fn around_drop<T, const N: usize>(secret: T) -> [[u8; N]; 2] {
@@ -421,7 +423,7 @@ mod tests {
 
     #[test]
     fn types_lack_what_would_make_a_slip_easy() {
-        none_has!(Clone: Key StreamKey WideKey Nonce Iv);
+        none_has!(Clone: Key StreamKey WideKey Nonce Iv KeyStream);
         none_has!(PartialEq: Key StreamKey WideKey Tag);
         none_has!(fmt::Display: Key StreamKey WideKey);
         none_has!(AsRef<[u8]>: Key StreamKey WideKey);

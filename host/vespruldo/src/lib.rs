@@ -69,20 +69,23 @@
 //! - The text, which is hidden, cannot stand where [`Data`] must, which is not.
 //! - A fresh number and a used one are different types. A [`Nonce`] and an [`Iv`]
 //!   cannot be copied, and [`seal`], [`seal_short`], [`seal_in_place`],
-//!   [`card_seal`], [`chacha20`] and [`lioness_encipher`] take theirs for good:
-//!   none is used twice by a slip. What comes back, or is read from a card, is a
-//!   [`UsedNonce`] or a [`UsedIv`], which seals and enciphers nothing; only
-//!   [`chacha20_again`] goes on with a key stream under one, and must be told
+//!   [`card_seal`], [`KeyStream::start`] and [`lioness_encipher`] take theirs for
+//!   good: none is used twice by a slip. What comes back, or is read from a card,
+//!   is a [`UsedNonce`] or a [`UsedIv`], which seals and enciphers nothing; only
+//!   [`KeyStream::again`] goes on with a key stream under one, and must be told
 //!   where.
 //! - A [`Drawer`] cannot be copied: a copy would hand out the same numbers.
+//! - A [`KeyStream`] cannot be copied either, and carries its own counter: it goes
+//!   on where it stopped, with bursts of whole blocks.
 //! - A [`Key`], [`StreamKey`] or [`WideKey`] has no `==`, is shown without its
 //!   bytes, and is wiped when dropped.
 //! - If [`open`] refuses, there is no text to read.
 //!
 //! All this stops slips, not intent: [`Nonce::never_used`] and [`Iv::never_used`]
 //! take any bytes for fresh ones, a drawer that is started again from an older
-//! count hands out the same numbers again, and [`slices`] takes whatever bytes it
-//! is lent.
+//! count hands out the same numbers again, a key stream that goes on from an older
+//! counter is the same stream again, and [`slices`] takes whatever bytes it is
+//! lent.
 //!
 //! The lengths that are allowed have names in [`sizes`]. The functions in
 //! [`slices`] take slices of any length and write to room that is lent; those at
@@ -129,10 +132,9 @@ mod packs;
 mod refusal;
 pub mod sizes;
 pub mod slices;
+mod stream;
 
-pub use blocks::{
-    chacha20, chacha20_again, gift_decipher, gift_encipher, lioness_decipher, lioness_encipher,
-};
+pub use blocks::{gift_decipher, gift_encipher, lioness_decipher, lioness_encipher};
 pub use books::find_key;
 pub use bytes::{Iv, Key, Nonce, StreamKey, Tag, UsedIv, UsedNonce, WideKey};
 #[cfg(feature = "alloc")]
@@ -145,13 +147,14 @@ pub use packs::{Pack, PackCard, PackCards, PackRefusal};
 pub use refusal::{NotARefusal, Refusal};
 #[doc(inline)]
 pub use slices::{blake2b, same};
+pub use stream::KeyStream;
 
 /// The build script looks at the archive in one place; a linker may be told of
 /// others. So each program refers to the function whose name has the interface's
 /// number, as the C header has it. (Compilers before Rust 1.89 may leave this
 /// out; then `result_of` refers to it.)
 #[used]
-static ASKS_FOR: unsafe extern "C" fn() -> u32 = archive::vespruldo_interface_1;
+static ASKS_FOR: unsafe extern "C" fn() -> u32 = archive::vespruldo_interface_2;
 
 /// The Rust of README.md, run with the examples here.
 #[cfg(doctest)]

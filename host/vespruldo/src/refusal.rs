@@ -4,7 +4,7 @@
 use core::error::Error;
 use core::fmt;
 
-use crate::archive::vespruldo_interface_1;
+use crate::archive::vespruldo_interface_2;
 
 /// The refusals, each by its name, its number and its words.
 macro_rules! refusals {
@@ -148,7 +148,7 @@ pub(crate) fn result_of(number: u32, promised: &[Refusal]) -> Result<(), Refusal
         None => {
             // SAFETY: it takes nothing. That it is called here also keeps archives
             // of other interfaces from linking, where ASKS_FOR is left out.
-            let interface = unsafe { vespruldo_interface_1() };
+            let interface = unsafe { vespruldo_interface_2() };
             panic!(
                 "the archive answered {number}, a number that interface {interface} \
                  does not promise"

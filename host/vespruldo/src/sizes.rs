@@ -26,6 +26,8 @@ pub const GIFT_BLOCK_BYTES: usize = 16;
 pub const CHACHA20_KEY_BYTES: usize = 32;
 /// Nonce of ChaCha20.
 pub const CHACHA20_NONCE_BYTES: usize = 12;
+/// Block of ChaCha20's key stream.
+pub const CHACHA20_BLOCK_BYTES: usize = 64;
 /// Key of BLAKE2b; an empty one is no key.
 pub const BLAKE2B_KEY_MAX: usize = 64;
 /// Shortest digest of BLAKE2b.

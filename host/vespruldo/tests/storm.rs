@@ -13,7 +13,7 @@ use common::books::{self, book, with_count};
 use common::packs::{compare_judges, compare_next, Lesson};
 use common::pairs::{self, judged, judged_card_open};
 use common::{
-    times, up_to, with_flip, Guarded, Pair, CARD_EXTRA, LONGEST_BLOCK, LONGEST_CARD_TEXT,
+    times, up_to, with_flip, Answer, Guarded, Pair, CARD_EXTRA, LONGEST_BLOCK, LONGEST_CARD_TEXT,
     LONGEST_DATA, LONGEST_TEXT,
 };
 use second::random::Random;
@@ -306,11 +306,13 @@ fn opening_card(random: &mut Random, lens: [usize; 4]) -> ([Guarded; 3], Guarded
     (read, Guarded::new(random, room_len), expected)
 }
 
-/// A start from which a short text ends near the counter's end, or any.
-fn chacha20_start(random: &mut Random) -> u32 {
-    let near_end = u32::MAX - up_to(random, 4) as u32;
-    let any = random.next_u64() as u32;
-    one_of(random, &[near_end, near_end, any, any >> 24])
+/// A start from which a short text ends near the counter's end, one behind that,
+/// one from which it ends near 2^64, or any.
+fn chacha20_start(random: &mut Random) -> u64 {
+    let (end, few, any) = (1 << 32, up_to(random, 4) as u64, random.next_u64());
+    let before = end - 1 - few;
+    let behind = one_of(random, &[end + few, u64::MAX - few, any]);
+    one_of(random, &[before, behind, any >> 32, any >> 56])
 }
 
 /// Reader number and count, each at a border or any.
@@ -620,7 +622,7 @@ fn compare_gifts(pair: &Pair<1, 1>, random: &mut Random) -> u32 {
 }
 
 /// Two buffers are read, and one is worked in.
-fn compare_threes(pair: &Pair<2, 1>, random: &mut Random, sizes: [Size; 3]) -> u32 {
+fn compare_threes<A: Answer>(pair: &Pair<2, 1, A>, random: &mut Random, sizes: [Size; 3]) -> u32 {
     let [first, second, worked] = lengths(random, sizes);
     pair.compare(random, [first, second], [worked])
 }

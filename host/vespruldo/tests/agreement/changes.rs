@@ -9,13 +9,15 @@ use crate::Sources;
 /// Changes that are reported. Each line has the text that is changed, how the
 /// report begins, and what gives way to what; `\n` stands for a line's end.
 const REPORTED: &str = r#"
-archive | vespruldo_chacha20:         | start: u32, =>
+archive | vespruldo_chacha20:         | start: u64, =>
 archive | vespruldo_seal:             | data: *const u8,\n        data_len: usize, =>
 rattle  | vespruldo_seal:             | data: &[u8], =>
 rattle  | vespruldo_drawer_start:     | (reader: u32, => (reader: u32, more: u32,
 archive | vespruldo_blake2b:          | digest: *mut => digest: *const
 rattle  | vespruldo_gift_encipher:    | key: &[u8], block => key: &mut [u8], block
-header  | vespruldo_chacha20:         | uint32_t start => uint32_t counter
+header  | vespruldo_chacha20:         | uint64_t start => uint64_t counter
+archive | vespruldo_chacha20:         | start: u64 => start: u32
+rattle  | vespruldo_chacha20:         | -> Streamed => -> u32
 archive | vespruldo_gift_encipher:    | block: *mut u8,\n        block_len => text: *mut u8,\n        text_len
 rattle  | vespruldo_lioness_encipher: | iv: &[u8], block => nonce: &[u8], block
 header  | vespruldo_key_find:         | class_number => class_numbers
@@ -34,11 +36,12 @@ archive | vespruldo_open:             | fn vespruldo_open( => fn vespruldo_o(
 rattle  | vespruldo_open:             | fn vespruldo_open( => fn vespruldo_o(
 symbols | vespruldo_open:             | T vespruldo_open\n => T vespruldo_o\n
 symbols | more:                       | T vespruldo_open\n => T vespruldo_open\n0 T more\n
-symbols | vespruldo_interface_1:      | T vespruldo_interface_1\n => T vespruldo_interface_2\n
+symbols | vespruldo_interface_2:      | T vespruldo_interface_2\n => T vespruldo_interface_1\n
 archive | Drawer:                     | reader: u32,\n    pub count: u64 => count: u64,\n    pub reader: u32
 archive | Stored:                     | bytes: [u8; 44] => bytes: [u8; 45]
 archive | PackCard:                   | start: usize,\n    pub length: usize => length: usize,\n    pub start: usize
 archive | PackJudged:                 | pub cards: usize => pub cards: u32
+archive | Streamed:                   | pub next: u64 => pub next: usize
 header  | Found:                      | number; /* DONE, BOOK => answer; /* DONE, BOOK
 header  | DrawnIv:                    | bytes[VESPRULDO_LIONESS_IV => bytes[VESPRULDO_LIONESS_KEY
 header  | BookForm:                   | VESPRULDO_BOOK_FORM 10 => VESPRULDO_BOOK_FORM 13
@@ -50,6 +53,7 @@ header  | Dance:                      | VESPRULDO_SONG 2 => VESPRULDO_DANCE 2
 header  | TEXT_MAX:                   | VESPRULDO_TEXT_MAX 1048576 => VESPRULDO_TEXT_MAX 1048577
 header  | CARD_EXTRA:                 | CARD_EXTRA 30 => CARD_EXTRA 28
 header  | PACK_MAX:                   | PACK_MAX 16893 => PACK_MAX 16892
+header  | CHACHA20_BLOCK_BYTES:       | CHACHA20_BLOCK_BYTES 64 => CHACHA20_BLOCK_BYTES 16
 sizes   | LIONESS_IV_BYTES:           | LIONESS_IV_BYTES: usize = 48; => LIONESS_IV_BYTES: usize = 12;
 sizes   | TAG_BYTES:                  | pub const TAG_BYTES: usize = 16; =>
 sizes   | MORE_BYTES:                 | pub const TAG_BYTES => pub const MORE_BYTES: usize = 1;pub const TAG_BYTES
@@ -57,7 +61,8 @@ sizes   | MORE_BYTES:                 | pub const TAG_BYTES => pub const MORE_BY
 
 /// Changes of the interface, and of what has its number.
 const INTERFACE: &str = r#"
-header  | vespruldo_chacha20 changed       | uint32_t start => uint64_t start
+header  | vespruldo_chacha20 changed       | uint64_t start => uint32_t start
+header  | vespruldo_chacha20 changed       | vespruldo_streamed vespruldo_c => uint32_t vespruldo_c
 header  | vespruldo_key_find changed       | uint16_t class_number => uint32_t class_number
 header  | vespruldo_drawer_iv changed      | vespruldo_drawn_iv vespruldo_d => vespruldo_drawn vespruldo_d
 header  | vespruldo_drawer_start changed   | uint32_t reader, uint64_t count) => uint64_t count, uint32_t reader)
@@ -66,16 +71,17 @@ header  | vespruldo_pack_next changed      | size_t place => uint32_t place
 header  | vespruldo_pack_card changed      | uint32_t kind => uint64_t kind
 header  | vespruldo_drawer changed         | uint64_t count;\n} => uint32_t count;\n}
 header  | vespruldo_stored changed         | } vespruldo_stored => uint32_t more;} vespruldo_stored
+header  | vespruldo_streamed changed       | uint64_t next; => uint32_t next;
 header  | vespruldo_version is gone        | vespruldo_version(void); => vespruldo_v(void);
 header  | vespruldo_v is new               | vespruldo_version(void); => vespruldo_v(void);
 record  | vespruldo_same is new            | vespruldo_same( => vespruldo_other(
 record  | vespruldo_other is gone          | vespruldo_same( => vespruldo_other(
 record  | vespruldo_found changed          | book; at 4 => book; at 8
 record  | vespruldo_found changed          | offset; at 8\n}; 16 bytes => offset; at 8\n}; 24 bytes
-header  | the header does not declare and  | VESPRULDO_INTERFACE 1 => VESPRULDO_INTERFACE 2
-header  | the header does not declare and  | = vespruldo_interface_1; => = vespruldo_version;
-header  | tests/agreement/interface_1.txt  | VESPRULDO_INTERFACE 1 => VESPRULDO_INTERFACE 2
-build   | build.rs looks for another       | INTERFACE: &str = "1" => INTERFACE: &str = "2"
+header  | the header does not declare and  | VESPRULDO_INTERFACE 2 => VESPRULDO_INTERFACE 3
+header  | the header does not declare and  | = vespruldo_interface_2; => = vespruldo_version;
+header  | tests/agreement/interface_2.txt  | VESPRULDO_INTERFACE 2 => VESPRULDO_INTERFACE 3
+build   | build.rs looks for another       | INTERFACE: &str = "2" => INTERFACE: &str = "1"
 "#;
 
 /// Changes that are not understood, and how the complaint about each begins.
@@ -95,7 +101,7 @@ header  | not understood: #define VESPRULDO_READS  | access(read_only => access(
 archive | assertion `left == right` failed: what follows the pointer iv    | iv_len: usize, =>
 archive | assertion `left == right` failed: what follows the pointer nonce | nonce_len => key_len
 archive | key_len is the length of no buffer       | key: *const u8,\n =>
-header  | not understood: the type int             | uint32_t start => int start
+header  | not understood: the type int             | uint64_t start => int start
 header  | ( is expected, not vespruldo_version     | uint32_t vespruldo_version( => static uint32_t vespruldo_version(
 header  | not understood: #include <stdio.h>       | <stddef.h> => <stdio.h>
 header  | not understood: int more(void);          | extern "C" { => int more(void);
@@ -103,16 +109,16 @@ header  | not understood: #if defined(__clang__)   | #if defined(__GNUC__) => #i
 header  | not understood: #define VESPRULDO_KEPT   | VESPRULDO_KEPT __attribute__((used))\n => VESPRULDO_KEPT\n
 header  | vespruldo_seal is declared twice         | uint32_t vespruldo_open( => uint32_t vespruldo_seal(
 header  | default is expected, not return          | default: =>
-archive | not understood: the type i32             | start: u32 => start: i32
+archive | not understood: the type i64             | start: u64 => start: i64
 archive | "C" is expected, not "system"            | extern "C" => extern "system"
 archive | struct is expected, not const            | pub struct Found => pub const Found
-rattle  | not understood: the type i32             | start: u32 => start: i32
+rattle  | not understood: the type i64             | start: u64 => start: i64
 rattle  | not understood: the type Given           | -> PackCard => -> Given
 rattle  | # is expected, not pub extern            | #[no_mangle] =>
 rattle  | "C" is expected, not "rust"              | extern "C" => extern "rust"
 symbols | not understood: 0000000000000000 D       | T vespruldo_open\n => D vespruldo_open\n
 sizes   | a number is expected, not KEY            | usize = 16; => usize = KEY;
-record  | tests/agreement/interface_1.txt has      | vespruldo_seal( => vespruldo_open(
+record  | tests/agreement/interface_2.txt has      | vespruldo_seal( => vespruldo_open(
 "#;
 
 /// The text with `new` in place of `old`, which it must have.
@@ -149,9 +155,7 @@ impl Sources {
     }
 }
 
-#[test]
-fn every_change_is_reported() {
-    let sources = Sources::read();
+pub fn every_change_is_reported(sources: &Sources) {
     for line in [REPORTED, INTERFACE]
         .map(str::trim)
         .iter()
@@ -164,9 +168,7 @@ fn every_change_is_reported() {
     }
 }
 
-#[test]
-fn strange_declarations_are_not_passed_over() {
-    let sources = Sources::read();
+pub fn strange_declarations_are_not_passed_over(sources: &Sources) {
     for line in STRANGE.trim().lines() {
         let (sources, said) = sources.changed(line);
         let complaint = catch_unwind(|| sources.disagreements()).expect_err(line);
@@ -177,15 +179,14 @@ fn strange_declarations_are_not_passed_over() {
 
 /// The C compiler is asked, not only the text: fields that are exchanged in the
 /// header lie elsewhere than in Rust, and another case gives other words.
-#[test]
-fn other_layouts_and_words_are_reported() {
+pub fn other_layouts_and_words_are_reported(sources: &Sources) {
     let [old, new] = [
         "uint32_t reader;\n    uint64_t count;",
         "uint64_t count;\n    uint32_t reader;",
     ];
-    let exchanged = altered(&Sources::read().header, old, new);
+    let exchanged = altered(&sources.header, old, new);
     let exchanged = altered(&exchanged, "bytes left over", "left over bytes");
-    let reported = layout::disagreements(&exchanged, "agreement-exchanged");
+    let reported = layout::disagreements(&exchanged);
     for said in ["vespruldo_drawer.reader:", "vespruldo_drawer.count:", "15:"] {
         let is_it = reported.iter().any(|report| report.starts_with(said));
         assert!(is_it, "{reported:?}");

@@ -8,7 +8,7 @@ use crate::layout::layouts_in_rust;
 use crate::model::{Function, Kind, Named};
 
 /// The record of the interface that the header has now.
-pub const RECORD: &str = "tests/agreement/interface_1.txt";
+pub const RECORD: &str = "tests/agreement/interface_2.txt";
 
 /// By the name of a function or struct: how it is declared.
 type Entries = BTreeMap<String, String>;

@@ -5,7 +5,7 @@ use std::fs;
 use std::mem::{align_of, offset_of, size_of};
 use std::path::{Path, PathBuf};
 
-use vespruldo::archive::{Drawer, Drawn, Found, Loaded, PackCard, PackJudged, Stored};
+use vespruldo::archive::{Drawer, Drawn, Found, Loaded, PackCard, PackJudged, Stored, Streamed};
 use vespruldo::Refusal;
 
 use crate::c::{c_name, Header};
@@ -55,12 +55,11 @@ fn program(header: &Header) -> String {
     format!("{before}int main(void)\n{{\n{body}    return 0;\n}}\n")
 }
 
-/// What the program prints when it is compiled with this header. `folder` keeps
-/// apart the files of tests that run at the same time. Where tests are built for
-/// another machine, `CC` names its compiler and `VESPRULDO_RUNNER` what runs its
-/// programs.
-fn printed(text: &str, header: &Header, folder: &str) -> String {
-    let dir: PathBuf = Path::new(env!("CARGO_TARGET_TMPDIR")).join(folder);
+/// What the program prints when it is compiled with this header. Where tests are
+/// built for another machine, `CC` names its compiler and `VESPRULDO_RUNNER` what
+/// runs its programs.
+fn printed(text: &str, header: &Header) -> String {
+    let dir: PathBuf = Path::new(env!("CARGO_TARGET_TMPDIR")).join("agreement");
     fs::create_dir_all(&dir).expect("a folder for the program");
     fs::write(dir.join("vespruldo.h"), text).expect("the header");
     fs::write(dir.join("layout.c"), program(header)).expect("the program");
@@ -108,6 +107,7 @@ pub fn layouts_in_rust() -> Layouts {
     let pack_card = layouts!("vespruldo_pack_card", PackCard, number kind start length bad next);
     all.extend(pack_card);
     all.extend(layouts!("vespruldo_pack_judged", PackJudged, number cards bad));
+    all.extend(layouts!("vespruldo_streamed", Streamed, number next));
     all
 }
 
@@ -124,12 +124,12 @@ fn words_in_rust() -> BTreeMap<String, String> {
 
 /// Where the C compiler with this header and Rust, or the C compiler and the
 /// reading of the header, do not agree.
-pub fn disagreements(text: &str, folder: &str) -> Vec<String> {
+pub fn disagreements(text: &str) -> Vec<String> {
     let header = Header::of(text);
     let mut layouts = Layouts::new();
     let mut numbers = BTreeMap::new();
     let mut all_words = BTreeMap::new();
-    for line in printed(text, &header, folder).lines() {
+    for line in printed(text, &header).lines() {
         if let Some((number, words)) = line.split_once(": ") {
             all_words.insert(number.to_string(), words.to_string());
             continue;

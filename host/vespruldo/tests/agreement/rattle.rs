@@ -51,7 +51,7 @@ fn kind(tokens: &mut Tokens) -> Kind {
         "u64" => Kind::U64,
         "usize" => Kind::Size,
         name @ ("Drawer" | "Drawn" | "DrawnIv" | "Stored" | "Loaded" | "Found" | "PackCard"
-        | "PackJudged") => Kind::Struct(name.to_string()),
+        | "PackJudged" | "Streamed") => Kind::Struct(name.to_string()),
         other => panic!("not understood: the type {other}"),
     }
 }

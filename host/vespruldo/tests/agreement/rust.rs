@@ -117,9 +117,8 @@ fn kind(tokens: &mut Tokens) -> Kind {
             let drawn = DRAWN.iter().find(|drawn| drawn.0 == len);
             Kind::Struct(drawn.expect("a length of Drawn").1.to_string())
         }
-        name @ ("Drawer" | "Stored" | "Loaded" | "Found" | "PackCard" | "PackJudged") => {
-            Kind::Struct(name.to_string())
-        }
+        name @ ("Drawer" | "Stored" | "Loaded" | "Found" | "PackCard" | "PackJudged"
+        | "Streamed") => Kind::Struct(name.to_string()),
         other => panic!("not understood: the type {other}"),
     }
 }

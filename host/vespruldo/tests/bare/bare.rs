@@ -11,8 +11,9 @@
 use core::panic::PanicInfo;
 
 use vespruldo::{
-    blake2b, card_open, card_seal, chacha20, chacha20_again, find_key, gift_decipher,
-    gift_encipher, lioness_decipher, lioness_encipher, open_in_place, same, seal_in_place, Data, Drawer, Pack, PackCard, Refusal, StreamKey, WideKey,
+    blake2b, card_open, card_seal, find_key, gift_decipher, gift_encipher, lioness_decipher,
+    lioness_encipher, open_in_place, same, seal_in_place, Data, Drawer, KeyStream, Pack, PackCard,
+    Refusal, StreamKey, WideKey,
 };
 
 #[link(name = "c")]
@@ -61,7 +62,8 @@ fn cards(drawer: &mut Drawer) -> Result<(), Refusal> {
     Ok(())
 }
 
-/// A wide block, a key stream, and digests that are compared.
+/// A wide block, a key stream over a burst and a last part, and digests that are
+/// compared.
 fn others(drawer: &mut Drawer) -> Result<(), Refusal> {
     let mut block = SONG;
     let key = WideKey::from([1; 128]);
@@ -71,9 +73,12 @@ fn others(drawer: &mut Drawer) -> Result<(), Refusal> {
     assert_eq!(block, SONG);
 
     let key = StreamKey::from([1; 32]);
-    let nonce = chacha20(&key, drawer.draw()?, 0, &mut block)?;
+    let (mut stream, nonce) = KeyStream::start(&key, drawer.draw()?);
+    stream.add(&mut [[1; 64]; 2])?;
+    assert_eq!(stream.next_block(), 2);
+    assert_eq!(stream.finish(&mut block)?, 3);
     assert_ne!(block, SONG);
-    chacha20_again(&key, &nonce, 0, &mut block)?;
+    KeyStream::again(&key, &nonce, 2).finish(&mut block)?;
     assert_eq!(block, SONG);
 
     let [mut first, mut second] = [[0; 32]; 2];

@@ -9,7 +9,9 @@ pub mod packs;
 pub mod pairs;
 
 use std::env;
+use std::fmt::Debug;
 
+use second::chacha::Streamed;
 use second::random::Random;
 use vespruldo::Refusal;
 
@@ -96,29 +98,45 @@ impl Guarded {
     }
 }
 
-type Work<const R: usize, const W: usize> = Box<dyn Fn([&[u8]; R], [&mut [u8]; W]) -> u32>;
+/// What a function answers: the document's number, and perhaps more.
+pub trait Answer: Copy + Debug + PartialEq {
+    fn number(self) -> u32;
+}
+
+impl Answer for u32 {
+    fn number(self) -> u32 {
+        self
+    }
+}
+
+impl Answer for Streamed {
+    fn number(self) -> u32 {
+        self.number
+    }
+}
+
+type Work<const R: usize, const W: usize, A> = Box<dyn Fn([&[u8]; R], [&mut [u8]; W]) -> A>;
 
 /// A function of the archive beside the same function of the second
-/// implementation. It reads `R` buffers, works in `W` more and answers the
-/// document's number.
-pub struct Pair<const R: usize, const W: usize> {
+/// implementation. It reads `R` buffers, works in `W` more and answers `A`.
+pub struct Pair<const R: usize, const W: usize, A = u32> {
     name: String,
-    ours: Work<R, W>,
-    seconds: Work<R, W>,
-    /// The number that the document asks for, from the lengths alone.
-    expected: Box<dyn Fn([usize; R], [usize; W]) -> u32>,
+    ours: Work<R, W, A>,
+    seconds: Work<R, W, A>,
+    /// What the document asks for as the answer, from the lengths alone.
+    expected: Box<dyn Fn([usize; R], [usize; W]) -> A>,
     /// From the lengths: how many bytes at the front of the first buffer worked
     /// in are 0 after a refusal with 7.
     zeroed: fn([usize; R], [usize; W]) -> usize,
 }
 
-impl<const R: usize, const W: usize> Pair<R, W> {
+impl<const R: usize, const W: usize, A: Answer> Pair<R, W, A> {
     pub fn new(
         name: impl Into<String>,
-        ours: impl Fn([&[u8]; R], [&mut [u8]; W]) -> u32 + 'static,
-        seconds: impl Fn([&[u8]; R], [&mut [u8]; W]) -> u32 + 'static,
-        expected: impl Fn([usize; R], [usize; W]) -> u32 + 'static,
-    ) -> Pair<R, W> {
+        ours: impl Fn([&[u8]; R], [&mut [u8]; W]) -> A + 'static,
+        seconds: impl Fn([&[u8]; R], [&mut [u8]; W]) -> A + 'static,
+        expected: impl Fn([usize; R], [usize; W]) -> A + 'static,
+    ) -> Pair<R, W, A> {
         Pair {
             name: name.into(),
             ours: Box::new(ours),
@@ -129,13 +147,13 @@ impl<const R: usize, const W: usize> Pair<R, W> {
     }
 
     /// The same with a refusal that leaves zeros.
-    pub fn zeroing(self, zeroed: fn([usize; R], [usize; W]) -> usize) -> Pair<R, W> {
+    pub fn zeroing(self, zeroed: fn([usize; R], [usize; W]) -> usize) -> Pair<R, W, A> {
         Pair { zeroed, ..self }
     }
 
-    /// Runs both on the same bytes and compares the number and all bytes,
+    /// Runs both on the same bytes and compares the answer and all bytes,
     /// guards too. A refusal must leave what the document says.
-    pub fn run(&self, mut read: [Guarded; R], before: [Guarded; W]) -> (u32, [Guarded; W]) {
+    pub fn run(&self, mut read: [Guarded; R], before: [Guarded; W]) -> (A, [Guarded; W]) {
         let read_lens = read.each_ref().map(|buffer| buffer.len);
         let lens = before.each_ref().map(|buffer| buffer.len);
         let case = format!("{}, reads {read_lens:?}, works in {lens:?}", self.name);
@@ -144,55 +162,49 @@ impl<const R: usize, const W: usize> Pair<R, W> {
         let mut seconds = before.clone();
 
         let lent = read.each_mut().map(|buffer| &*buffer.lent());
-        let number = (self.seconds)(lent, seconds.each_mut().map(Guarded::lent));
-        if number != 0 {
+        let answer = (self.seconds)(lent, seconds.each_mut().map(Guarded::lent));
+        if answer.number() != 0 {
             let mut left = before;
-            if number == 7 {
+            if answer.number() == 7 {
                 left[0].lent()[..(self.zeroed)(read_lens, lens)].fill(0);
             }
             assert!(seconds == left, "what a refusal leaves: {case}");
         }
-        let our_number = (self.ours)(lent, ours.each_mut().map(Guarded::lent));
-        assert_eq!(our_number, number, "{case}");
+        let our_answer = (self.ours)(lent, ours.each_mut().map(Guarded::lent));
+        assert_eq!(our_answer, answer, "{case}");
         // Not `assert_eq`, which would print buffers of many megabytes.
         assert!(ours == seconds, "worked in, or its guards: {case}");
         assert!(read == read_before, "read, or its guards: {case}");
-        (number, ours)
+        (answer, ours)
     }
 
     /// What both make of the bytes `before`, which neither may refuse.
     pub fn done(&self, read: [&[u8]; R], before: [&[u8]; W]) -> [Vec<u8>; W] {
-        let (number, mut after) = self.run(read.map(Guarded::around), before.map(Guarded::around));
-        assert_eq!(number, 0, "{}", self.name);
+        let (answer, mut after) = self.run(read.map(Guarded::around), before.map(Guarded::around));
+        assert_eq!(answer.number(), 0, "{}", self.name);
         after.each_mut().map(|buffer| buffer.lent().to_vec())
     }
 
     /// Both must refuse with this number.
     pub fn refused(&self, number: u32, read: [&[u8]; R], before: [&[u8]; W]) {
-        let (refusal, _) = self.run(read.map(Guarded::around), before.map(Guarded::around));
-        assert_eq!(refusal, number, "{}", self.name);
+        let (answer, _) = self.run(read.map(Guarded::around), before.map(Guarded::around));
+        assert_eq!(answer.number(), number, "{}", self.name);
     }
 
-    /// Runs both on random-looking buffers with guards and compares the number,
-    /// which is answered, and all bytes.
+    /// Runs both on random-looking buffers with guards and compares the answer and
+    /// all bytes. The answer's number is handed back.
     pub fn compare(&self, random: &mut Random, read_lens: [usize; R], lens: [usize; W]) -> u32 {
         let read = read_lens.map(|len| Guarded::new(random, len));
         let before = lens.map(|len| Guarded::new(random, len));
-        let (number, _) = self.run(read, before);
+        let (answer, _) = self.run(read, before);
         let expected = (self.expected)(read_lens, lens);
-        assert_eq!(number, expected, "{} {read_lens:?} {lens:?}", self.name);
-        number
+        assert_eq!(answer, expected, "{} {read_lens:?} {lens:?}", self.name);
+        answer.number()
     }
 
-    /// The same where the number is known beforehand.
-    pub fn answer(
-        &self,
-        number: u32,
-        random: &mut Random,
-        read_lens: [usize; R],
-        lens: [usize; W],
-    ) {
-        assert_eq!((self.expected)(read_lens, lens), number, "{}", self.name);
+    /// The same where the answer is known beforehand.
+    pub fn answer(&self, answer: A, random: &mut Random, read_lens: [usize; R], lens: [usize; W]) {
+        assert_eq!((self.expected)(read_lens, lens), answer, "{}", self.name);
         self.compare(random, read_lens, lens);
     }
 
@@ -261,7 +273,7 @@ impl<const R: usize, const W: usize> Pair<R, W> {
         }
         let lent_lens = lent.each_ref().map(|buffer| buffer.len());
         let expected = (self.expected)(read.map(<[u8]>::len), lent_lens);
-        assert_ne!(expected, 0, "{}, huge {n}", self.name);
+        assert_ne!(expected.number(), 0, "{}, huge {n}", self.name);
         assert_eq!((self.ours)(read, lent), expected, "{}", self.name);
         assert_eq!(worked, lens.map(|len| vec![7; len]), "{}", self.name);
         let ends = [&huge[..4096], &huge[huge.len() - 4096..]];

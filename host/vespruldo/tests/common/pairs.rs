@@ -1,8 +1,9 @@
 //! The archive's functions that answer a number, each beside the same function
 //! of the second implementation.
 
+use second::chacha::Streamed;
 use second::{blake, card, chacha, gift, hyena, lioness};
-use vespruldo::slices;
+use vespruldo::{archive, slices};
 
 use super::{
     number, Pair, CARD_EXTRA, LONGEST_BLOCK, LONGEST_CARD_TEXT, LONGEST_DATA, LONGEST_TEXT,
@@ -203,25 +204,58 @@ pub fn gift_decipher() -> Pair<1, 1> {
     )
 }
 
-fn judged_chacha20([key_len, nonce_len]: [usize; 2], start: u32, text_len: usize) -> u32 {
-    if key_len != 32 {
-        1
-    } else if nonce_len != 12 {
-        2
-    } else if text_len > LONGEST_TEXT {
-        4
-    } else if u64::from(start) + text_len.div_ceil(64) as u64 > 1 << 32 {
-        8
-    } else {
-        0
+/// The answer for these lengths. No sum is ever cut to 64 bits.
+fn judged_chacha20([key, nonce]: [usize; 2], start: u64, text: usize) -> Streamed {
+    let next = u128::from(start) + text.div_ceil(64) as u128;
+    let wrong = [
+        (1, key != 32),
+        (2, nonce != 12),
+        (4, text > LONGEST_TEXT),
+        (8, next > 1 << 32),
+    ];
+    match first_wrong(wrong) {
+        0 => Streamed {
+            number: 0,
+            next: next as u64,
+        },
+        number => Streamed {
+            number,
+            next: start,
+        },
     }
 }
 
+/// The archive's own answer, with what comes with a refusal.
+pub fn streamed(key: &[u8], nonce: &[u8], start: u64, text: &mut [u8]) -> Streamed {
+    // SAFETY: each pointer comes with its slice's own length, and the text, lent
+    // mutably, lies apart from the others.
+    let archive::Streamed { number, next } = unsafe {
+        archive::vespruldo_chacha20(
+            key.as_ptr(),
+            key.len(),
+            nonce.as_ptr(),
+            nonce.len(),
+            start,
+            text.as_mut_ptr(),
+            text.len(),
+        )
+    };
+    Streamed { number, next }
+}
+
 /// The key stream from this counter on.
-pub fn chacha20(start: u32) -> Pair<2, 1> {
+pub fn chacha20(start: u64) -> Pair<2, 1, Streamed> {
     Pair::new(
         format!("chacha20, start {start:#x}"),
-        move |[key, nonce], [text]| number(slices::chacha20(key, nonce, start, text)),
+        move |[key, nonce], [text]| match slices::chacha20(key, nonce, start, text) {
+            Ok(next) => Streamed { number: 0, next },
+            // A refusal changed nothing, and is given again.
+            Err(refusal) => {
+                let again = streamed(key, nonce, start, text);
+                assert_eq!(again.number, refusal.number());
+                again
+            }
+        },
         move |[key, nonce], [text]| chacha::stream(key, nonce, start, text),
         move |read_lens, [text_len]| judged_chacha20(read_lens, start, text_len),
     )
