@@ -2,7 +2,7 @@
 -- after whole blocks, and in bursts.
 use mathlib.Core.Path.{_≡_, refl, sym, ap, ap₂, _∙_}
 use mathlib.Core.List.{List, [], _∷_, _++_}
-use Prim.Native.Nat.{ℕ, _+_, _*_, _^_, _≤_, _<_}
+use Prim.Native.Nat.{ℕ, _+_, _^_, _≤_, _<_}
 use native.Mathlib.Omega.{arith}
 use lib.ListN.{length, length-append}
 use borrow.Author.Tests.{eqb-true, not-false, ltb-false, eq-eqb, lt-ltb, le-ltb}
@@ -10,7 +10,7 @@ use Rattle.answers.specs.Answers.{answered}
 use Rattle.answers.proofs.Answers.{Clear, refuse-clear, answer-done, answer-has}
 use Rattle.chacha.specs.ChaCha.{blocks, stream}
 use Rattle.chacha.specs.Entry.{rows, stoppedAt, streaming}
-use Rattle.chacha.specs.Bursts.{joined, AllDone, inBursts}
+use Rattle.chacha.specs.Bursts.{Whole, AllWhole, joined, AllDone, inBursts}
 use Rattle.chacha.proofs.Streams.{length-stream, stream-twice, stream-cut}
 
 -- ---- when a call is done, and where it stops
@@ -90,9 +90,9 @@ streaming-twice key nonce text start =
     (refuse-clear _ _ (rows (length key) (length nonce) start (length text)) c))
     (λ n h e. sym e) refl
 
--- ---- in parts, of which each but the last has whole blocks
+-- ---- in two, cut after whole blocks
 
-module _ (key nonce a b : List ℕ) (start m : ℕ) (whole : length a ≡ 64 * m) where
+module _ (key nonce a b : List ℕ) (start : ℕ) (whole : Whole a) where
   -- where the stream stops after a
   abbrev cut : ℕ
   cut = start + blocks (length a)
@@ -100,11 +100,9 @@ module _ (key nonce a b : List ℕ) (start m : ℕ) (whole : length a ≡ 64 * m
   both : stoppedAt (start + blocks (length (a ++ b))) (stream key nonce start (a ++ b))
       ≡ stoppedAt (cut + blocks (length b)) (stream key nonce start a ++ stream key nonce cut b)
   both =
-      let em : m ≡ blocks (length a) = omega arith in
       let l = length-append a b in
       ap₂ stoppedAt (omega (arith, l, whole))
-      (stream-cut key nonce a b start m whole
-      ∙ ap (λ (n : ℕ). stream key nonce start a ++ stream key nonce (start + n) b) em)
+      (stream-cut key nonce a b start (blocks (length a)) (omega (arith, whole)))
 
   -- "Where one call is done, cutting it after whole 64-byte blocks into two gives the same": the second is started at
   -- what the first answered, both are done, and their bytes and the last answer are those of the one call
@@ -125,15 +123,25 @@ module _ (key nonce a b : List ℕ) (start m : ℕ) (whole : length a ≡ 64 * m
       (omega (arith, hb, l, whole)) in
       rw (first, second) (refl, refl, e ∙ both)
 
--- ---- in bursts and a last part: one stream over the whole text, however many they are and however long together
+-- ---- in bursts and a last part
 
-module _ (key nonce : List ℕ) where
-  pub in-bursts : (start : ℕ) (bursts : List (List ℕ)) (last : List ℕ) → AllDone key nonce start bursts last
+module _ (key nonce last : List ℕ) where
+  -- where one call on the whole text is done, all are
+  pub all-done : (start : ℕ) (bursts : List (List ℕ)) → AllWhole bursts
+      → streaming key nonce start (joined bursts last) .number ≡ 0 → AllDone key nonce start bursts last
+  unfolding joined AllDone
+  all-done start [] w done = done
+  all-done start (burst ∷ more) (whole, w) done =
+      let c = streaming-cut key nonce burst (joined more last) start whole done in
+      (c .0, all-done (streaming key nonce start burst .outcome .next) more w (c .1))
+
+  -- where all are done, they are one stream over the whole text, also where that is longer than one call takes
+  pub in-bursts : (start : ℕ) (bursts : List (List ℕ)) → AllWhole bursts → AllDone key nonce start bursts last
       → inBursts key nonce start bursts last
       ≡ stoppedAt (start + blocks (length (joined bursts last))) (stream key nonce start (joined bursts last))
   unfolding joined AllDone inBursts
-  in-bursts start [] last done = done-next key nonce start last done .1
-  in-bursts start (burst ∷ more) last (whole, done, all) =
+  in-bursts start [] w done = done-next key nonce start last done .1
+  in-bursts start (burst ∷ more) (whole, w) (done, all) =
       let e = done-next key nonce start burst done .1 in
-      rw (e, in-bursts (start + blocks (length burst)) more last (rw e at all))
-      (sym (both key nonce burst (joined more last) start (blocks (length burst)) whole))
+      rw (e, in-bursts (start + blocks (length burst)) more w (rw e at all))
+      (sym (both key nonce burst (joined more last) start whole))

@@ -9,8 +9,8 @@ use crate::slices;
 /// place, by exclusive or. It carries its own counter and goes on where it
 /// stopped: nobody has to know how many blocks were used.
 ///
-/// A text that is there as a whole is finished at once. The nonce comes back as a
-/// used one, and is stored with the text, to give it back:
+/// A text that is there as a whole takes one call. The nonce comes back as a used
+/// one, and is stored with the text, to give it back:
 ///
 /// ```
 /// use vespruldo::{Drawer, KeyStream, StreamKey};
