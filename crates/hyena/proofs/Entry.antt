@@ -1,21 +1,21 @@
 -- What a call leaves, from what its steps ensure.
-use mathlib.Core.Path.{_≡_, sym, ap, ap₂, fun-ext, _∙_}
-use mathlib.Core.Bool.{Bool, true, false, cond}
-use mathlib.Core.List.{List}
+use mathlib.Core.Path.{_≡_, refl, sym, ap, ap₂, fun-ext, _∙_}
+use mathlib.Core.Bool.{Bool, true, false, cond, not}
+use mathlib.Core.List.{List, _++_, append-nil}
 use Prim.Native.Nat.{ℕ, _^_, _≤_, _<_}
 use native.Mathlib.Omega.{arith}
-use borrow.Author.Tests.{eqb-true, not-false, ltb-false}
+use borrow.Author.Tests.{eqb-true, not-false, ltb-false, eq-eqb, le-ltb}
 use lib.Dec.{eqb}
-use lib.ListN.{length, replicate, length-replicate}
+use lib.ListN.{length, replicate, length-replicate, drop-of-length-le}
 use lib.Seq.{sets, take-all}
 use Rattle.words.specs.declared.Block.{Block}
 use Rattle.words.specs.Block.{value, halves, loaded, stored}
 use Rattle.words.specs.Bytes.{number, bytes, over}
 use Rattle.words.proofs.Blocks.{value-halves, value-is, value-lt, loaded-all, stored-all}
-use Rattle.words.proofs.Bytes.{number-bytes}
-use Rattle.words.proofs.Over.{over-over, sets-front}
-use Rattle.answers.specs.Answers.{answered, numberOf}
-use Rattle.answers.proofs.Answers.{Clear, refuse-clear, judged-refused, judged-clear}
+use Rattle.words.proofs.Bytes.{number-bytes, length-bytes}
+use Rattle.words.proofs.Over.{length-over, over-over, sets-front}
+use Rattle.answers.specs.Answers.{Answer, answered, numberOf}
+use Rattle.answers.proofs.Answers.{Clear, refuse-clear, answer-done, answer-has, judged-refused, judged-clear}
 use Rattle.gift.specs.Gift.{encipher}
 use Rattle.gift.proofs.Entry.{enciphers-is}
 use Rattle.mode.specs.Hyena as mode
@@ -26,7 +26,8 @@ use Rattle.hyena_blocks.specs.declared.StateY.{StateY}
 use Rattle.hyena_blocks.specs.declared.StateX.{StateX}
 use Rattle.hyena_blocks.specs.Steps.{keyed, enciphers, heldY, heldX, readY, readX, started, tagged}
 use Rattle.hyena_blocks.proofs.Steps.{readY-held, readX-held}
-use Rattle.hyena.specs.Entry.{rows, Inputs, refusals, outputOf, tagOf, Sealing, sealing, Opening, opening, gift}
+use Rattle.hyena.specs.Entry.{rows, Inputs, refusals, Sealed, outputOf, tagOf, Sealing, sealing}
+use Rattle.hyena.specs.Entry.{Opening, opening, gift}
 
 -- ---- the steps, one after the other
 
@@ -118,6 +119,50 @@ module _ (cipher : List ℕ → ℕ → ℕ) (i : Inputs) where
   written way room fits =
       sets-front (outputOf cipher way i) room
       (omega (arith, length-outputs (cipher (i .key)) way (i .nonce) (i .«data») (i .text)))
+
+  -- where no length is refused, sealing is done
+  pub sealing-done : (tag room : List ℕ) → length (i .key) ≡ 16 → length (i .nonce) ≡ 12
+      → length (i .«data») ≤ 65536 → length (i .text) ≤ 1048576 → length tag ≡ 16 → length (i .text) ≤ length room
+      → sealing cipher i room tag
+      ≡ answered 0 (record { room = over (outputOf cipher false i) room; tag = tagOf cipher false i })
+  unfolding sealing
+  sealing-done tag room k n a t g r =
+      refuse-clear _ _ (refusals i tag room) (
+        ap not (eq-eqb _ _ k),
+        (
+          ap not (eq-eqb _ _ n),
+          (le-ltb _ _ a, (le-ltb _ _ t, (ap not (eq-eqb _ _ g), (le-ltb _ _ r, tt)))),
+        ),
+      )
+
+  -- refused or not, it leaves as many bytes as it was lent
+  pub length-sealed : (tag room : List ℕ) → let s = sealing cipher i room tag .outcome in
+      (length (s .room) ≡ length room) × (length (s .tag) ≡ length tag)
+  unfolding sealing
+  length-sealed tag room =
+      answer-has _ _ (refusals i tag room)
+      (λ (a : Answer Sealed). (length (a .outcome .room) ≡ length room) × (length (a .outcome .tag) ≡ length tag))
+      tt (λ c. let l = allowed i tag room c in (
+        length-over (outputOf cipher false i) room
+            (omega (
+              arith,
+              l .room-fits,
+              length-outputs (cipher (i .key)) false (i .nonce) (i .«data») (i .text),
+            )),
+        length-bytes 16 _ ∙ sym (l .tag-16),
+      )) (λ n h. (refl, refl))
+
+  -- done in room as long as the text, it leaves nothing of what the room held
+  pub sealing-whole : (tag room : List ℕ) → sealing cipher i room tag .number ≡ 0 → length room ≡ length (i .text)
+      → sealing cipher i room tag ≡ answered 0 (record { room = outputOf cipher false i; tag = tagOf cipher false i })
+  unfolding sealing over
+  sealing-whole tag room e l =
+      let out = outputOf cipher false i in
+      let lo : length room ≤ length out =
+      omega (arith, length-outputs (cipher (i .key)) false (i .nonce) (i .«data») (i .text)) in
+      answer-done _ _ (refusals i tag room) tt e .1
+      ∙ ap (λ (r : List ℕ). answered 0 (record { room = r; tag = tagOf cipher false i }))
+      (ap (λ (r : List ℕ). out ++ r) (drop-of-length-le room {i = length out} lo) ∙ append-nil out)
 
   -- a call that is not refused by its lengths goes by the tag
   pub opening-by : (tag room : List ℕ) → Clear (refusals i tag room) → (t : Bool)

@@ -1,6 +1,6 @@
 -- What the code makes, from what its calls ensure.
 use mathlib.Core.Path.{_≡_, refl, sym, ap, ap₂, subst⁻¹, _∙_}
-use mathlib.Core.Bool.{false, not}
+use mathlib.Core.Bool.{false}
 use mathlib.Core.List.{List, _++_}
 use Prim.Native.Nat.{ℕ, _+_, _-_, _≤_}
 use native.Mathlib.Omega.{arith}
@@ -8,7 +8,7 @@ use lib.ListN.{length, take, drop, replicate, length-append, length-take, length
 use lib.Seq.{sets, take-all}
 use lib.Dec.{lit≤}
 use borrow.Rule.Slice.PartMut.{putMid}
-use borrow.Author.Tests.{eqb-true, not-false, ltb-false, eq-eqb, le-ltb}
+use borrow.Author.Tests.{eqb-true, not-false, ltb-false}
 use Rattle.words.specs.declared.Block.{Block}
 use Rattle.words.specs.Block.{value, halves, part, loaded, stored}
 use Rattle.words.specs.Bytes.{Bytes, bytes, over}
@@ -20,6 +20,7 @@ use Rattle.answers.proofs.Answers.{Clear, refuse-clear, judged-refused, judged-
 use Rattle.words.proofs.WordLists.{stored-word}
 use Rattle.hyena.specs.Entry as hyena
 use Rattle.hyena.specs.Entry.{Inputs, inputs, outputOf, tagOf, gift}
+use Rattle.hyena.proofs.Entry.{sealing-done}
 use Rattle.mode.proofs.Trip.{length-outputs}
 use Rattle.sealed_card.specs.SealedCard.{cardOf, sealRows, sealing, Sealing, lengthIn, openRows, opening, Opening}
 
@@ -32,23 +33,6 @@ module _ (key nonce «data» text : List ℕ) (lk : length key ≡ 16) (ln : len
 
   length-head : length head ≡ 14
   length-head = length-append nonce (bytes 2 (length text)) ∙ ap₂ _+_ ln (length-bytes 2 (length text))
-
-  -- nothing is refused inside
-  pub sealed : (p : List ℕ) → length text ≤ length p
-      → hyena.sealing gift (inputs key nonce «data» text) p (replicate 16 0)
-      ≡ answered 0 (record {
-        room = over (outputOf gift false (inputs key nonce «data» text)) p;
-        tag = tagOf gift false (inputs key nonce «data» text);
-      })
-  unfolding hyena.sealing
-  sealed p fits =
-      refuse-clear _ _ (hyena.refusals (inputs key nonce «data» text) (replicate 16 0) p) (
-        ap not (eq-eqb _ _ lk),
-        (
-          ap not (eq-eqb _ _ ln),
-          (le-ltb _ _ la, (le-ltb 1048576 (length text) (omega arith), (refl, (le-ltb _ _ fits, tt)))),
-        ),
-      )
 
   module _ (room : List ℕ) (lr : length text + 30 ≤ length room) (hn : Bytes nonce) {b b′ : Block}
       {r₁ r₂ p tag r₄ : List ℕ} {n : ℕ} (eb : b ≡ halves (loaded nonce 0 12)) (e₁ : r₁ ≡ stored room 0 12 (value b))
@@ -81,7 +65,7 @@ module _ (key nonce «data» text : List ℕ) (lk : length key ≡ 16) (ln : len
           room = over ct (take (length r₂ - 14) (drop 14 r₂));
           tag = tagOf gift false (inputs key nonce «data» text);
         }) =
-        es ∙ sealed _ fits in
+        es ∙ sealing-done gift (inputs key nonce «data» text) (replicate 16 0) _ lk ln la (omega arith) refl fits in
         let ep : p ≡ over ct (take (length r₂ - 14) (drop 14 r₂)) =
         ap (λ (a : Answer hyena.Sealed). a .outcome .room) d in
         let et : tag ≡ tagOf gift false (inputs key nonce «data» text) =

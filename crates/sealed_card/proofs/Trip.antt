@@ -1,5 +1,5 @@
 -- A card that was sealed opens: its text comes back.
-use mathlib.Core.Path.{_≡_, sym, ap, ap₂, _∙_}
+use mathlib.Core.Path.{_≡_, refl, sym, ap, ap₂, _∙_}
 use mathlib.Core.Bool.{false, not}
 use mathlib.Core.List.{List, _++_, append-assoc}
 use Prim.Native.Nat.{ℕ, _+_, _<_, _≤_}
@@ -15,10 +15,11 @@ use Rattle.answers.proofs.Answers.{Clear, refuse-clear, answer-done}
 use Rattle.hyena.specs.Entry as hyena
 use Rattle.hyena.specs.Entry.{inputs, Inputs, outputOf, tagOf, gift}
 use Rattle.mode.proofs.Trip.{length-outputs}
+use Rattle.hyena.proofs.Entry.{sealing-done}
 use Rattle.hyena.proofs.Demands.{gift-demands}
 use Rattle.sealed_card.specs.SealedCard.{cardOf, sealRows, sealing, lengthIn, nonceIn, ciphertextIn, tagIn}
 use Rattle.sealed_card.specs.SealedCard.{openRows, opening}
-use Rattle.sealed_card.proofs.SealedCards.{sealed, sealable}
+use Rattle.sealed_card.proofs.SealedCards.{sealable}
 
 module _ (key nonce «data» text : List ℕ) (lk : length key ≡ 16) (ln : length nonce ≡ 12) (la : length «data» ≤ 65536)
     (lt : length text ≤ 65535) where
@@ -104,7 +105,8 @@ module _ (key nonce «data» text : List ℕ) (lk : length key ≡ 16) (ln : len
     opened =
         let e : hyena.sealing gift (inputs key nonce «data» text) text (replicate 16 0)
         ≡ answered 0 (record { room = over ct text; tag = tag }) =
-        sealed key nonce «data» text lk ln la lt text (omega arith) in
+        sealing-done gift (inputs key nonce «data» text) (replicate 16 0) text lk ln la (omega arith) refl
+        (omega arith) in
         let o : hyena.opening gift (inputs key nonce «data» (take (length text) (over ct text))) tag room
         ≡ answered 0 (over text room) =
         ap (λ (a : Answer hyena.Sealed). hyena.opening gift

@@ -1,15 +1,14 @@
 -- Whether two blocks are the same, found by one test of what differs in either half.
 use mathlib.Core.Path.{_≡_, sym, ap, ap₂, _∙_}
 use Prim.Native.Nat.{ℕ, _+_, _*_, _/_, _%_, _^_, _<_}
-use native.Mathlib.Decide.{ℕ-discrete}
 use native.Mathlib.Omega.{arith}
 use lib.Bits.{bitXor, bitOr, xor-self, xor-lt, or-lt, or-mod}
 use lib.Dec.{eqb}
-use borrow.Author.Tests.{eq-eqb, ne-eqb}
 use Rattle.words.specs.declared.Block.{Block}
 use Rattle.words.specs.Block.{value, halves}
 use Rattle.words.proofs.Blocks.{halves-value}
 use Rattle.words.proofs.ExclusiveOr.{xor-zero, or-zero}
+use Rattle.words.proofs.Tests.{agree}
 
 -- a number of 64 bits, its halves folded onto each other
 abbrev folded : ℕ → ℕ
@@ -44,8 +43,4 @@ module _ (a b : Block) (fa : (a .lo < 2 ^ 64) × (a .hi < 2 ^ 64)) (fb : (b .lo 
 
   pub equal-is : eqb (folded (bitOr (bitXor (a .lo) (b .lo)) (bitXor (a .hi) (b .hi)))) 0 ≡ eqb (value a) (value b)
   unfolding differing
-  equal-is =
-      elim (ℕ-discrete (value a) (value b)) [
-        | yes q ↦ eq-eqb (folded differing) 0 (none-differs q) ∙ sym (eq-eqb (value a) (value b) q)
-        | no n ↦ ne-eqb (folded differing) 0 (λ e. n (equal e)) ∙ sym (ne-eqb (value a) (value b) n)
-      ]
+  equal-is = agree (folded differing) 0 (value a) (value b) equal none-differs
