@@ -1,11 +1,11 @@
 -- Numbers handed out one after another from one start never repeat, and the count says how many there were.
 use mathlib.Core.Path.{_≡_, refl, sym, ap, _∙_}
 use mathlib.Core.Bool.{Bool, true, false, cond}
-use mathlib.Core.List.{List, [], _∷_, _++_}
+use mathlib.Core.List.{List, [], _∷_, _++_, append-assoc}
 use Prim.Native.Nat.{ℕ, _+_, _-_, _*_, _^_, _<_, _≤_, min}
 use native.Mathlib.Nat.{add-zero}
 use native.Mathlib.Omega.{arith}
-use borrow.Author.Tests.{ltb-true, ltb-false}
+use borrow.Author.Tests.{ltb-true, ltb-false, le-ltb}
 use lib.Dec.{ltb}
 use lib.ListN.{length, getD, drop}
 use Rattle.words.specs.Block.{part}
@@ -13,9 +13,12 @@ use Rattle.words.specs.Bytes.{number, bytes}
 use Rattle.words.specs.Digits.{tab}
 use Rattle.words.proofs.Bytes.{number-bytes}
 use Rattle.words.proofs.Lists.{tab-from, tab-append, length-tab}
+use Rattle.answers.specs.Answers.{answered}
+use Rattle.answers.proofs.Answers.{refuse-clear}
 use Rattle.drawer.specs.declared.Drawer.{Drawer}
-use Rattle.drawer.specs.Drawer.{Use, forNonce, forIv, started, nonce, remaining, counts, written, moved, drawing}
-use Rattle.drawer.specs.Sequence.{handedOut, after}
+use Rattle.drawer.specs.Drawer.{Use, forNonce, forIv, started, nonce, remaining, counts, written, rows, moved}
+use Rattle.drawer.specs.Drawer.{drawing}
+use Rattle.drawer.specs.Sequence.{numbers, handedOut, after}
 
 -- the numbers of a reader, from a count on
 abbrev from : ℕ → ℕ → ℕ → List (List ℕ)
@@ -40,6 +43,28 @@ module _ (u : Use) (us : List Use) (d : Drawer) where
       × (after (u ∷ us) d ≡ after us (moved (counts u) d))
   unfolding drawing handedOut after
   given e = rw e (ap (λ (l : List (List ℕ)). l ++ handedOut us (moved (counts u) d)) (written-numbers u d), refl)
+
+-- a draw for a nonce, where one is left: its number, and those of the draws behind it
+pub first-handed : (d : Drawer) → 1 ≤ remaining d → (us : List Use)
+    → handedOut (forNonce ∷ us) d ≡ nonce d ∷ handedOut us (moved 1 d)
+unfolding tab
+first-handed d h us = given forNonce us d (le-ltb _ _ h) .0
+
+pub drawing-done : (d : Drawer) → 1 ≤ remaining d
+    → drawing forNonce d ≡ answered 0 (record { bytes = nonce d; next = moved 1 d })
+unfolding drawing
+drawing-done d h = refuse-clear _ _ (rows 1 d) (le-ltb _ _ h, tt)
+
+-- a list of draws, cut in two
+pub handed-append : (us vs : List Use) (d : Drawer)
+    → handedOut (us ++ vs) d ≡ handedOut us d ++ handedOut vs (after us d)
+unfolding handedOut after
+handed-append [] vs d = refl
+handed-append (u ∷ us) vs d =
+    let first = numbers u (drawing u d) in
+    let next = drawing u d .outcome .next in
+    ap (λ (l : List (List ℕ)). first ++ l) (handed-append us vs next)
+    ∙ sym (append-assoc first (handedOut us next) (handedOut vs (after us next)))
 
 -- how many counts draws take where n are left: each as many as it asks for, or none where fewer are left
 abbrev taken : List Use → ℕ → ℕ

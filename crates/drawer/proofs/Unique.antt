@@ -6,10 +6,14 @@ use Rattle.answers.specs.Answers.{applying, smallest}
 use Rattle.answers.proofs.Answers.{same-answer, least-answered}
 use Rattle.words.proofs.Unique.{same}
 use Rattle.drawer.specs.declared.Drawer.{Drawer}
-use Rattle.drawer.specs.Drawer.{Use, forNonce, forIv, started, nonce, counts, rows, Handed, drawing, Drawing}
+use Rattle.drawer.specs.Drawer.{Use, forNonce, forIv, started, nonce, remaining, counts, rows, Handed}
+use Rattle.drawer.specs.Drawer.{drawing, Drawing}
 
 pub start-unique : (reader count : ℕ) {a b : Drawer} → a ≡ started reader count → b ≡ started reader count → a ≡ b
 start-unique reader count = same
+
+pub remaining-unique : (d : Drawer) {a b : ℕ} → a ≡ remaining d → b ≡ remaining d → a ≡ b
+remaining-unique d = same
 
 pub next-nonce-unique : (d : Drawer) {a b : List ℕ} → a ≡ nonce d → b ≡ nonce d → a ≡ b
 next-nonce-unique d = same

@@ -3,7 +3,7 @@ use answers::row;
 use words::Block;
 ghost use mathlib.Core.Path.{_≡_};
 ghost use Rattle.answers.specs.Answers.{numberOf};
-ghost use Rattle.drawer.specs.Drawer.{forNonce, forIv, started, nonce, rows, Drawing};
+ghost use Rattle.drawer.specs.Drawer.{forNonce, forIv, started, nonce, remaining, rows, Drawing};
 
 #[repr(C)]
 pub struct Drawer {
@@ -80,7 +80,14 @@ pub fn iv(d: Drawer) -> DrawnIv
 fn refusal(n: u64, d: Drawer) -> u32
     ensures { λ r. ⌜ r ≡ numberOf (rows n d) ⌝ }
 {
-    row(18446744073709551615 - d.count < n, 9, 0)
+    row(remaining(d) < n, 9, 0)
+}
+
+// How many counts are left to draw: the last one, 2^64 - 1, is never drawn.
+pub fn remaining(d: Drawer) -> u64
+    ensures { λ r. ⌜ r ≡ remaining d ⌝ }
+{
+    18446744073709551615 - d.count
 }
 
 // The bytes of a nonce.
