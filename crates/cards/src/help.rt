@@ -8,7 +8,7 @@ use libc::STDERR_FILENO;
 use libc::STDOUT_FILENO;
 use words::first;
 
-const VERSION: [u8; 12] = *b"cards 0.4.0
+const VERSION: [u8; 12] = *b"cards 0.5.0
 ";
 
 const OVERVIEW: [u8; 122] =

@@ -60,7 +60,7 @@ fn put_drawn(number: u32, bytes: &[u8], next: Drawer) {
     put_drawer(next);
 }
 
-fn put_drawer(d: Drawer) {
+pub(crate) fn put_drawer(d: Drawer) {
     put_number(d.reader as u64);
     put_number(d.count);
 }

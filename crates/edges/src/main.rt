@@ -1,9 +1,10 @@
-// Runs document 01's edges, and those of K2, and prints what each call answered and left, a line for each case. The
-// modules say what their lines hold; numbers are in decimal, bytes in hex, the first byte first, `-` for none.
+// Runs document 01's edges, and those of K2 and K3, and prints what each call answered and left, a line for each case.
+// The modules say what their lines hold; numbers are in decimal, bytes in hex, the first byte first, `-` for none.
 ghost use Prim.Native.Nat.{_≤_};
 ghost use lib.ListN.{length};
 use libc::STDOUT_FILENO;
 
+mod batches; // batches.rt: cards sealed in one go
 mod cards; // cards.rt: sealing and opening
 mod draws; // draws.rt: the drawer of nonces
 mod keys; // keys.rt: the key books
@@ -14,6 +15,7 @@ fn main() {
     draws::draws();
     keys::keys();
     streams::streams();
+    batches::batches();
 }
 
 // Bytes by a rule of the place, the same in each run.
@@ -37,9 +39,9 @@ fn put_number(n: u64) {
     io::print_decimal(STDOUT_FILENO, n);
 }
 
-// A space and bytes, at most 129.
+// A space and bytes, at most 208.
 fn put_bytes(s: &[u8]) {
-    let mut shown = [0u8; 258];
+    let mut shown = [0u8; 416];
     let n = hex::show(s, &mut shown);
     io::write_all(STDOUT_FILENO, b" ");
     io::write_all(STDOUT_FILENO, words::first(&shown, n));

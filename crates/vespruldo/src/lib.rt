@@ -1,5 +1,6 @@
 // What C and Rust link. Each function but the last two is a thin call with the whole promise of what it calls, by its
 // name; a slice crosses as a pointer and a length, a struct by value.
+use batch::Batch;
 use books::Found;
 use chacha::Streamed;
 use drawer::Drawer;
@@ -17,6 +18,7 @@ ghost use Rattle.chacha.specs.Entry as chacha;
 ghost use Rattle.blake.specs.Entry as blake;
 ghost use Rattle.lioness.specs.Entry as lioness;
 ghost use Rattle.drawer.specs.Drawer.{forNonce, forIv, started, Drawing};
+ghost use Rattle.batch.specs.Batch as batch;
 ghost use Rattle.books.specs.Entry as books;
 ghost use Rattle.sealed_card.specs.SealedCard as sealedCard;
 ghost use Rattle.drawer_file.specs.DrawerFile.{storing, Loading};
@@ -219,6 +221,23 @@ pub extern "C" fn vespruldo_drawer_load(bytes: &[u8]) -> Loaded
 }
 
 #[no_mangle]
+pub extern "C" fn vespruldo_seal_batch(
+    key: &[u8],
+    data: &[u8],
+    texts: &[u8],
+    lengths: &[u64],
+    drawer: Drawer,
+    room: &mut [u8],
+    tags: &mut [u8],
+) -> Batch
+    ensures { λ r. ⌜ batch.Batching (r .number) (batch.inputs (now (key .entry)) (now («data» .entry))
+        (now (texts .entry)) (now (lengths .entry)) drawer) (now (room .entry)) (now (tags .entry)) (now (room .exit))
+        (now (tags .exit)) (r .next) ⌝ }
+{
+    batch::seal(key, data, texts, lengths, drawer, room, tags)
+}
+
+#[no_mangle]
 pub extern "C" fn vespruldo_key_find(this_term: &[u8], last_term: &[u8], class: u16) -> Found
     ensures { λ r. ⌜ books.Finding (r .number) (now («this_term» .entry)) (now («last_term» .entry)) class (r .book)
         (r .offset) ⌝ }
@@ -247,12 +266,12 @@ pub extern "C" fn vespruldo_same(a: &[u8], b: &[u8]) -> bool
     words::same(a, b)
 }
 
-// The version 0.4.0, as 10000 times the first number, 100 times the second and the third.
+// The version 0.5.0, as 10000 times the first number, 100 times the second and the third.
 #[no_mangle]
 pub extern "C" fn vespruldo_version() -> u32
-    ensures { λ r. ⌜ r ≡ 400 ⌝ }
+    ensures { λ r. ⌜ r ≡ 500 ⌝ }
 {
-    400
+    500
 }
 
 // What the header has every caller refer to: the number in the name goes up when a signature or a struct of an older

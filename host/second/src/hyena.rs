@@ -8,7 +8,7 @@
 use crate::{gift, LONGEST_TEXT};
 
 /// The most bytes of associated data (document 01, Sizes).
-const LONGEST_AD: usize = 65_536;
+pub const LONGEST_AD: usize = 65_536;
 
 /// The bytes in a block; "it must be n = 128" bits (document 01, HyENA).
 const BLOCK: usize = 16;

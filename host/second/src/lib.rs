@@ -1,7 +1,7 @@
 //! A second implementation of what document 01 asks for, of document 02's lesson
-//! packs (K1) and key stream that tells where it stopped (K2), and of what is
-//! proved of the tool `cards`, written from the documents, the tool's man page
-//! (docs/cards.1) and the RFCs alone.
+//! packs (K1), key stream that tells where it stopped (K2) and batches of cards
+//! (K3), and of what is proved of the tool `cards`, written from the documents,
+//! the tool's man page (docs/cards.1) and the RFCs alone.
 //!
 //! It exists to be compared with the archive `libvespruldo.a` and with the tool,
 //! so it links neither and takes the plainest road everywhere: every step is a
@@ -10,6 +10,7 @@
 
 #![forbid(unsafe_code)]
 
+pub mod batch;
 pub mod bits;
 pub mod blake;
 pub mod books;

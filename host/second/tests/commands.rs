@@ -38,13 +38,19 @@ fn edges_are_printed_one_on_each_line() {
     let edges = second(&["edges"], b"");
     assert!(edges.status.success());
     let text = String::from_utf8(edges.stdout).expect("letters, digits and spaces");
-    // HyENA, drawers, key books and the key stream.
-    assert_eq!(text.lines().count(), 278 + 48 + 676 + 108);
+    // HyENA, drawers, key books, the key stream and batches.
+    assert_eq!(text.lines().count(), 278 + 48 + 676 + 108 + 185);
     assert!(text.starts_with("16 12 0 0 5 16 128 0 a5a5a5a5a5 "));
     assert!(text.contains("d4a5a5a5a5a5\ndraw 0 0 0 000000000000000000000000 0 1 "));
     assert!(text.contains("\nkey 12 12 65535 10 - 0 0\nstream 32 12 0 0 0 0 -\n"));
     let max = u64::MAX;
-    assert!(text.ends_with(&format!("\nstream 31 11 {max} 1 1 {max} 09\n")));
+    let last_stream = format!("\nstream 31 11 {max} 1 1 {max} 09\n");
+    assert!(text.contains(&format!(
+        "{last_stream}batch 16 3 0 5 0 16909060 {max} 0 18 "
+    )));
+    let tags = "5a".repeat(16);
+    let last_batch = format!("batch 16 3 0 5 16 16909060 9 0 5 16909060 9 a5a5a5a5a5 {tags}");
+    assert!(text.ends_with(&format!("\n{last_batch}\n")));
     assert!(!text.contains("  ") && !text.contains(" \n"));
 }
 

@@ -7,7 +7,7 @@
 //! answered and left behind follows. The line of a short form is `short TEXT`
 //! and then the same last five fields.
 
-use super::filled;
+use super::{filled, ROOM_BYTE, SPARE, TAG_BYTE};
 use crate::blake::digest;
 use crate::hyena::{open, open_short, seal, seal_short};
 use crate::lines::{print_field, Order};
@@ -16,18 +16,11 @@ use crate::lines::{print_field, Order};
 /// 4,097.
 const BUFFER: usize = 4113;
 
-/// What each byte of room is before a call, and each byte of room for a tag.
-const ROOM_BYTE: u8 = 0xa5;
-const TAG_BYTE: u8 = 0x5a;
-
 /// The longest room that a line shows byte by byte.
 const SHOWN_WHOLE: usize = 32;
 
 /// The bit number of a card that flips no bit of the tag.
 const NO_BIT: usize = 128;
-
-/// How many bytes of room there are beyond the text on most cards.
-const SPARE: usize = 5;
 
 /// Six lengths in bytes, and the bit of the tag that is flipped between sealing
 /// and opening.

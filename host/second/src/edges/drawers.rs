@@ -26,7 +26,7 @@ const COUNTS: [u64; 12] = [
 ];
 
 /// The fields of a drawer.
-fn numbers(drawer: Drawer) -> String {
+pub fn numbers(drawer: Drawer) -> String {
     format!("{} {}", drawer.reader, drawer.count)
 }
 

@@ -4,14 +4,22 @@
 //! A line has fields with one space between two of them: words, decimal numbers
 //! and byte strings, these as the comparison program shows them with byte 0
 //! first. The lines of HyENA come first, then those of drawers, then those of
-//! key books, then those of the key stream. Lesson packs have lines of their own,
-//! which another command prints.
+//! key books, then those of the key stream, then those of batches. Lesson packs
+//! have lines of their own, which another command prints.
 
+mod batches;
 mod books;
 mod cards;
 mod drawers;
 mod packs;
 mod streams;
+
+/// What each byte of room is before a call, and each byte of room for tags.
+const ROOM_BYTE: u8 = 0xa5;
+const TAG_BYTE: u8 = 0x5a;
+
+/// How many bytes of room there are beyond the text in most calls of HyENA.
+const SPARE: usize = 5;
 
 /// The bytes that everything read is filled with. Keys, nonces, associated data
 /// and texts have the salts 1 to 4, this term's book 5 and last term's 6, the
@@ -34,6 +42,7 @@ pub fn edges() -> String {
         drawers::lines(),
         books::lines(),
         streams::lines(),
+        batches::lines(),
     ];
     text(&lines.concat())
 }
@@ -69,15 +78,16 @@ mod tests {
     }
 
     #[test]
-    fn cards_come_first_then_drawers_then_books_then_streams() {
+    fn cards_come_first_then_drawers_then_books_then_streams_then_batches() {
         let all = edges();
         let words: Vec<&str> = all.lines().map(|line| fields(line)[0]).collect();
-        assert_eq!(words.len(), 278 + 48 + 676 + 108);
+        assert_eq!(words.len(), 278 + 48 + 676 + 108 + 185);
         assert!(words[..274].iter().all(|word| word.parse::<u32>().is_ok()));
         assert!(words[274..278].iter().all(|&word| word == "short"));
         assert!(words[278..326].iter().all(|&word| word == "draw"));
         assert!(words[326..1002].iter().all(|&word| word == "key"));
-        assert!(words[1002..].iter().all(|&word| word == "stream"));
+        assert!(words[1002..1110].iter().all(|&word| word == "stream"));
+        assert!(words[1110..].iter().all(|&word| word == "batch"));
         assert!(all.ends_with('\n'));
     }
 }
