@@ -36,7 +36,7 @@ struct timing {
 
 static const char *const names[VERSIONS] = {
     [ARCHIVE] = "the archive", [PLAIN] = "plain C", [SODIUM] = "libsodium",
-    [OPENSSL] = "OpenSSL",     [B2] = "libb2",
+    [OPENSSL] = "OpenSSL",     [B2] = "libb2",      [SINGLY] = "single calls",
 };
 
 void fill(uint8_t *bytes, size_t len, uint64_t seed)
@@ -264,7 +264,7 @@ static void print_row(const struct subject *subject, int l,
                       struct timing timings[MOST_LENGTHS][VERSIONS])
 {
     static const int widths[VERSIONS] = {
-        [PLAIN] = 7, [SODIUM] = 9, [OPENSSL] = 7, [B2] = 5};
+        [PLAIN] = 7, [SODIUM] = 9, [OPENSSL] = 7, [B2] = 5, [SINGLY] = 6};
     const struct timing *archive = &timings[l][ARCHIVE];
     double seconds = median(archive->one_call);
     double len = (double)subject->lengths[l];

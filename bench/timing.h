@@ -7,8 +7,9 @@
 #include <stddef.h>
 #include <stdint.h>
 
-/* The archive's version and those of its peers, in the table's order. */
-enum version { ARCHIVE, PLAIN, SODIUM, OPENSSL, B2, VERSIONS };
+/* The archive's version and those of its peers, in the table's order. The last
+   is the archive itself, by more than one call. */
+enum version { ARCHIVE, PLAIN, SODIUM, OPENSSL, B2, SINGLY, VERSIONS };
 
 #define MOST_LENGTHS 4
 #define LONGEST 1048576

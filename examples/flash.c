@@ -1,6 +1,6 @@
 /* Keeps a drawer in two pages of flash memory: no nonce comes twice, whenever
    the power goes and whichever page is damaged, and no power cut loses the
-   drawer. go_on and next_nonce are a reader's; main tries them, cutting the
+   drawer. go_on and next_nonces are a reader's; main tries them, cutting the
    power again and again. */
 
 #include <stdbool.h>
@@ -39,29 +39,38 @@ struct reader {
     int page;
 };
 
-/* Draws a nonce. The drawer's next state is in flash memory before the nonce is
-   handed out, and until it is, the other page has the one before. */
-static uint32_t next_nonce(struct reader *reader, uint8_t *nonce)
+#define AT_ONCE VESPRULDO_BATCH_MAX /* the most that are drawn in one go */
+typedef uint8_t nonce_bytes[VESPRULDO_NONCE_BYTES];
+
+/* Draws one nonce, or as many as a batch has cards, which is then sealed from
+   the drawer that was there before. The drawer's next state is in flash memory
+   before they are used, and until it is, the other page has the one before. */
+static uint32_t next_nonces(struct reader *reader, nonce_bytes *nonces,
+                            size_t count)
 {
-    vespruldo_drawn drawn = vespruldo_drawer_draw(reader->drawer);
-    if (drawn.number != VESPRULDO_DONE)
-        return drawn.number;
-    vespruldo_stored stored = vespruldo_drawer_store(drawn.next);
+    vespruldo_drawer next = reader->drawer;
+    for (size_t i = 0; i < count; i++) {
+        vespruldo_drawn drawn = vespruldo_drawer_draw(next);
+        if (drawn.number != VESPRULDO_DONE)
+            return drawn.number;
+        memcpy(nonces[i], drawn.bytes, sizeof drawn.bytes);
+        next = drawn.next;
+    }
+    vespruldo_stored stored = vespruldo_drawer_store(next);
     if (!write_page(reader->page, stored.bytes))
         return NOT_WRITTEN;
-    reader->drawer = drawn.next;
+    reader->drawer = next;
     reader->page = 1 - reader->page;
-    memcpy(nonce, drawn.bytes, sizeof drawn.bytes);
     return VESPRULDO_DONE;
 }
 
 /* After each start: goes on from the page with the greater count, and writes to
    the other one first. If only one can be loaded, the other may have had the
-   greater count, and the number before it may be in use: it is drawn once more
-   and thrown away. */
+   greater count, and the numbers before that, as many as are drawn in one go,
+   may be in use: so many are drawn once more and thrown away. */
 static uint32_t go_on(struct reader *reader)
 {
-    uint8_t thrown_away[VESPRULDO_NONCE_BYTES];
+    nonce_bytes thrown_away[AT_ONCE];
     vespruldo_loaded loaded[PAGES];
     for (int page = 0; page < PAGES; page++)
         loaded[page] = vespruldo_drawer_load(pages[page], sizeof pages[page]);
@@ -73,7 +82,8 @@ static uint32_t go_on(struct reader *reader)
                                          loaded[0].drawer.count);
     reader->drawer = loaded[newer].drawer;
     reader->page = 1 - newer;
-    return first && second ? VESPRULDO_DONE : next_nonce(reader, thrown_away);
+    return first && second ? VESPRULDO_DONE
+                           : next_nonces(reader, thrown_away, AT_ONCE);
 }
 
 /* Once in the life of a reader number. Both pages are erased first, so that
@@ -94,20 +104,26 @@ static void set_up(uint32_t number)
 static bool used[UINT8_MAX + 1];
 static int bad;
 
-/* From a start until the power goes. A nonce's byte 4 is the low one of its
-   count, and all that a trial needs. */
+/* A nonce's byte 4 is the low one of its count, and all that a trial needs. */
+static void use(const nonce_bytes nonce)
+{
+    bad |= used[nonce[4]];
+    used[nonce[4]] = true;
+}
+
+/* From a start until the power goes: batches, and single nonces between. */
 static uint32_t live(size_t written)
 {
     struct reader reader;
-    uint8_t nonce[VESPRULDO_NONCE_BYTES];
+    nonce_bytes nonces[AT_ONCE];
+    size_t count = AT_ONCE;
     until_cut = written;
     uint32_t number = go_on(&reader);
     while (number == VESPRULDO_DONE) {
-        number = next_nonce(&reader, nonce);
-        if (number == VESPRULDO_DONE) {
-            bad |= used[nonce[4]];
-            used[nonce[4]] = true;
-        }
+        number = next_nonces(&reader, nonces, count);
+        for (size_t i = 0; number == VESPRULDO_DONE && i < count; i++)
+            use(nonces[i]);
+        count = AT_ONCE + 1 - count;
     }
     return number;
 }

@@ -8,12 +8,12 @@
    on, and interrupts that call it save them.
 
    Buffers. A buffer is a pointer and a length: how many bytes there are at that
-   place. A length that a function does not allow is refused, whatever it is. If
-   the length is 0, the pointer is not followed and may be NULL. Two buffers of
-   one call must not overlap if either is written (the pointers without
-   `const`): the answer could be DONE, and the bytes wrong. Where text and
-   ciphertext are to be one buffer, the functions that end in _in_place seal and
-   open it.
+   place, or numbers where it is a list of those. A length that a function does
+   not allow is refused, whatever it is. If the length is 0, the pointer is not
+   followed and may be NULL. Two buffers of one call must not overlap if either
+   is written (the pointers without `const`): the answer could be DONE, and the
+   bytes wrong. Where text and ciphertext are to be one buffer, the functions
+   that end in _in_place seal and open it.
 
    Threads. No function keeps a pointer, holds memory of its own between calls
    or takes any from a heap. Calls may run at the same time as long as none
@@ -54,8 +54,8 @@ extern "C" {
 
 /* The version of this header: 10000 * major + 100 * minor + patch, and as a
    text. vespruldo_version answers the archive's. */
-#define VESPRULDO_VERSION 400
-#define VESPRULDO_VERSION_TEXT "0.4.0"
+#define VESPRULDO_VERSION 500
+#define VESPRULDO_VERSION_TEXT "0.5.0"
 
 /* Lengths in bytes: _BYTES is the only one allowed, _MIN and _MAX are the least
    and the greatest, _EXTRA is what a card has besides its ciphertext. A text of
@@ -98,6 +98,7 @@ extern "C" {
 #define VESPRULDO_COUNT_OR_LENGTH 13
 #define VESPRULDO_BAD_SHUFFLE 14
 #define VESPRULDO_LEFT_OVER 15
+#define VESPRULDO_BATCH_FORM 18
 #define VESPRULDO_DRAWER_DAMAGED 106
 
 /* What an answer means, in words; never NULL. */
@@ -136,6 +137,8 @@ static inline const char *vespruldo_words(uint32_t number)
         return "bad shuffle";
     case VESPRULDO_LEFT_OVER:
         return "bytes left over";
+    case VESPRULDO_BATCH_FORM:
+        return "no cards, more than 12, or lengths that don't add up to the text";
     case VESPRULDO_DRAWER_DAMAGED:
         return "drawer file damaged";
     default:
@@ -344,9 +347,9 @@ uint32_t vespruldo_open_in_place(const uint8_t *key, size_t key_len,
 /* A drawer: a reader number and a count. Its draws never repeat as long as each
    is taken from the drawer that the last one handed back. So keep the drawer
    where a restart finds it: after each draw store `next`, and use what was
-   drawn only when that is done. A drawer started again from an older count
-   hands out the same numbers again. Two readers that share a key need different
-   reader numbers.
+   drawn only when that is done (of a batch, see vespruldo_seal_batch). A drawer
+   started again from an older count hands out the same numbers again. Two
+   readers that share a key need different reader numbers.
 
    What is stored is what vespruldo_drawer_store answers, never the bytes of
    this struct: it has padding, which holds whatever was in memory. */
@@ -403,8 +406,9 @@ vespruldo_drawn_iv vespruldo_drawer_iv(vespruldo_drawer drawer);
    Where writing can be cut off, a drawer needs two places, as in
    examples/flash.c: write to the two in turn, and read back what was written;
    after a restart go on from the one with the greater count, and write to the
-   other first; if only one can be loaded, draw and store once more, and throw
-   that number away. Erase both before a new drawer is written.
+   other first; if only one can be loaded, the other may have been ahead by all
+   that is drawn in one go, for a batch twelve numbers: draw so many, store the
+   drawer, and throw them away. Erase both before a new drawer is written.
 
    The bytes are the drawer file of the office's tool `cards`. Programs that
    draw from one file must take turns, or both draw the same number: while it
@@ -420,6 +424,54 @@ vespruldo_stored vespruldo_drawer_store(vespruldo_drawer drawer);
 VESPRULDO_LOOK_AT_ANSWER
 VESPRULDO_READS(1, 2)
 vespruldo_loaded vespruldo_drawer_load(const uint8_t *bytes, size_t bytes_len);
+
+/* ---- Batches: up to twelve cards in one call ---- */
+
+#define VESPRULDO_BATCH_MAX 12 /* cards of a batch */
+
+/* A batch that was sealed, and the drawer to draw from next. */
+typedef struct vespruldo_batch {
+    uint32_t number; /* DONE or the refusal */
+    vespruldo_drawer next;
+} vespruldo_batch;
+
+/* Seals 1 to 12 texts, each as vespruldo_seal does, in order and with the next
+   draws of `drawer`. `texts` has the texts end to end and `lengths` the length
+   of each in bytes; `lengths_len` says how many lengths these are, not how many
+   bytes. Any text may be empty, and together they may be longer than TEXT_MAX.
+   Writes the ciphertexts end to end to `room`, whose rest keeps its bytes, and
+   the tags in the same order, 16 bytes each, to `tags`. All cards have the same
+   associated data.
+
+   Each card is opened by itself, under its nonce. That is not answered, but can
+   be drawn again: the first from `drawer`, each other from the `next` of the
+   one before (examples/lesson.c). Nothing else may be sealed under them, and
+   none of the drawers that these draws hand back is stored.
+
+   Store `next` before anything of the batch is handed on. Until then `room` and
+   `tags` must be memory that nobody else reads and that a restart loses. Where
+   they are not, store first: draw once for each card, store the last `next`,
+   and then seal the batch from the drawer before. A refused batch has drawn
+   nothing: `next` is then the same drawer.
+
+   Refusals: KEY_LENGTH (key not 16 bytes), DATA_LENGTH (over 65,536),
+   TEXT_LENGTH (any one of the lengths over 1,048,576), TAG_LENGTH (tags not 16
+   bytes for each length), ROOM_LENGTH (room shorter than all of `texts`),
+   DRAWER_SPENT (fewer draws are left than there are lengths), BATCH_FORM (not 1
+   to 12 lengths, or they do not add up to `texts_len`). */
+VESPRULDO_LOOK_AT_ANSWER
+VESPRULDO_READS(1, 2) VESPRULDO_READS(3, 4) VESPRULDO_READS(5, 6)
+VESPRULDO_READS(7, 8) VESPRULDO_WRITES(10, 11) VESPRULDO_WRITES(12, 13)
+vespruldo_batch vespruldo_seal_batch(const uint8_t *key, size_t key_len,
+                                     const uint8_t *data, size_t data_len,
+                                     const uint8_t *texts, size_t texts_len,
+                                     const uint64_t *lengths,
+                                     size_t lengths_len,
+                                     vespruldo_drawer drawer,
+                                     uint8_t *VESPRULDO_RESTRICT room,
+                                     size_t room_len,
+                                     uint8_t *VESPRULDO_RESTRICT tags,
+                                     size_t tags_len);
 
 /* ---- Key books ---- */
 
@@ -640,7 +692,7 @@ typedef char vespruldo_structs_are_not_packed
     [sizeof(vespruldo_drawer) == 16 && sizeof(vespruldo_drawn) == 32 &&
              sizeof(vespruldo_drawn_iv) == 72 &&
              sizeof(vespruldo_stored) == 44 && sizeof(vespruldo_loaded) == 24 &&
-             sizeof(vespruldo_found) == 16 &&
+             sizeof(vespruldo_batch) == 24 && sizeof(vespruldo_found) == 16 &&
              sizeof(vespruldo_pack_card) == 40 &&
              sizeof(vespruldo_pack_judged) == 24 &&
              sizeof(vespruldo_streamed) == 16

@@ -3,13 +3,14 @@
    error for each conditional jump and each address that depends on one.
 
    Marked are the bytes of every buffer that is lent, the start counter of a key
-   stream, and drawers. Not marked are lengths, that in a card too, and of key
-   books the counts and class numbers, which say where to look; the keys beside
-   them are. Nor are the counts, lengths and entries of a lesson pack, by which
-   it is walked and judged; the bytes of its words and its song are. Every
-   function of the archive is called, done and refused. Nothing may then depend
-   on a marked bit but the exceptions that are named here, each in one place of
-   one call; docs/SECURITY.md explains them. */
+   stream, and drawers. Not marked are lengths, that in a card and those of a
+   batch too, and of key books the counts and class numbers, which say where to
+   look; the keys beside them are. Nor are the counts, lengths and entries of a
+   lesson pack, by which it is walked and judged; the bytes of its words and its
+   song are. Every function of the archive is called, done and refused. Nothing
+   may then depend on a marked bit but the exceptions that are named here, each
+   in one place of one call, and of a batch in one more for each card;
+   docs/SECURITY.md explains them. */
 
 #include <stdbool.h>
 #include <stdio.h>
@@ -72,20 +73,26 @@ static void mark(void *bytes, size_t len)
     VALGRIND_MAKE_MEM_UNDEFINED(bytes, len);
 }
 
-/* Each byte must hold a marked bit. */
-static void must_be_marked(const char *function, const uint8_t *bytes,
-                           size_t len)
+/* Each byte must hold a marked bit, or none may. */
+static void must_be(bool marked, const char *function, const uint8_t *bytes,
+                    size_t len)
 {
     uint8_t marks[LONGEST];
     (void)VALGRIND_GET_VBITS(bytes, marks, len);
     for (size_t i = 0; i < len; i++) {
-        if (marks[i] == 0) {
-            printf("%s: byte %zu of the %zu that it wrote depends on nothing "
+        if ((marks[i] != 0) != marked) {
+            printf("%s: byte %zu of the %zu that it wrote depends on %s "
                    "marked\n",
-                   function, i, len);
+                   function, i, len, marked ? "nothing" : "something");
             failed = true;
         }
     }
+}
+
+static void must_be_marked(const char *function, const uint8_t *bytes,
+                           size_t len)
+{
+    must_be(true, function, bytes, len);
 }
 
 /* ---- Functions over buffers ---- */
@@ -94,6 +101,13 @@ static uint8_t key[LONGEST], nonce[LONGEST], data[LONGEST], text[LONGEST];
 static uint8_t ciphertext[LONGEST], tag[LONGEST], room[LONGEST];
 /* Of a key stream: its start, and where the last one stopped. */
 static uint64_t start, stopped;
+
+/* Of a batch: the lengths that are listed and how many, its drawer, and the one
+   that the last batch answered. */
+#define LISTED (VESPRULDO_BATCH_MAX + 1)
+static uint64_t listed[LISTED];
+static size_t batch_cards;
+static vespruldo_drawer batch_drawer, batch_next;
 
 /* A card begins with the nonce and the text's length. */
 static uint8_t card[LONGEST];
@@ -166,6 +180,15 @@ static uint32_t open_short(struct lengths n)
                                 tag, n.tag, room, n.room);
 }
 
+static uint32_t seal_batch(struct lengths n)
+{
+    vespruldo_batch batch = vespruldo_seal_batch(
+        key, n.key, data, n.data, text, n.text, listed, batch_cards,
+        batch_drawer, ciphertext, n.room, tag, n.tag);
+    batch_next = batch.next;
+    return batch.number;
+}
+
 static uint32_t gift_encipher(struct lengths n)
 {
     return vespruldo_gift_encipher(key, n.key, text, n.text);
@@ -213,6 +236,7 @@ static const struct function
     FUNCTION(open_short, verdict, TO_ROOM(room)),
     FUNCTION(seal_in_place, none, text, true, true, NULL),
     FUNCTION(open_in_place, verdict, text, true, false, seal_in_place),
+    FUNCTION(seal_batch, none, ciphertext, false, true, NULL),
     FUNCTION(gift_encipher, none, IN_PLACE),
     FUNCTION(gift_decipher, none, IN_PLACE),
     FUNCTION(chacha20, ending, IN_PLACE),
@@ -232,13 +256,13 @@ static void mark_all(void)
     VALGRIND_MAKE_MEM_DEFINED(length_in_card, LENGTH_BYTES);
 }
 
-static void mark_only(uint8_t *buffer)
+static void mark_only(uint8_t *bytes, size_t len)
 {
     for (size_t i = 0; i < COUNT(buffers); i++) {
         VALGRIND_MAKE_MEM_DEFINED(buffers[i], LONGEST);
     }
     VALGRIND_MAKE_MEM_DEFINED(&start, sizeof start);
-    mark(buffer, LONGEST);
+    mark(bytes, len);
 }
 
 static void check(const struct function *f, struct lengths n, uint32_t wanted,
@@ -274,7 +298,7 @@ static void all_must_be_marked(const struct function *f, struct lengths n)
 static void check_arrival(const struct function *f, struct lengths n)
 {
     prepare(f, n);
-    mark_only(n.key > 0 ? key : text);
+    mark_only(n.key > 0 ? key : text, LONGEST);
     begin();
     end(f->name, f->call(n), VESPRULDO_DONE,
         f->when_done == &ending ? &none : f->when_done);
@@ -487,6 +511,132 @@ static void check_endings(void)
         check(&f_chacha20, n, cases[i].number, &ending);
         check_stopped(n, cases[i].number,
                       cases[i].start + (cases[i].number == 0 ? blocks : 0));
+    }
+}
+
+/* ---- Batches ---- */
+
+/* What a batch draws is told by its drawer and lengths alone: with all else
+   marked, no bit of the next drawer is. */
+static void check_batch(struct lengths n, uint32_t wanted)
+{
+    mark_all();
+    begin();
+    uint32_t number = seal_batch(n);
+    (void)VALGRIND_CHECK_MEM_IS_DEFINED(&batch_next.reader,
+                                        sizeof batch_next.reader);
+    (void)VALGRIND_CHECK_MEM_IS_DEFINED(&batch_next.count,
+                                        sizeof batch_next.count);
+    end(f_seal_batch.name, number, wanted, &none);
+}
+
+/* With its drawer marked too, a batch asks whether all its draws remain, and
+   each of its draws asks again. */
+static void check_draws_of(struct lengths n, uint32_t wanted, size_t draws)
+{
+    const struct exception each = {spent.name, spent.places * (1 + draws)};
+    mark_all();
+    mark(&batch_drawer.reader, sizeof batch_drawer.reader);
+    mark(&batch_drawer.count, sizeof batch_drawer.count);
+    begin();
+    end(f_seal_batch.name, seal_batch(n), wanted, &each);
+    VALGRIND_MAKE_MEM_DEFINED(&batch_drawer, sizeof batch_drawer);
+}
+
+/* With the text of one card alone marked, that card is, and no other. */
+static void check_apart(struct lengths n, size_t marked)
+{
+    size_t at = 0;
+    for (size_t i = 0; i < marked; i++) {
+        at += (size_t)listed[i];
+    }
+    mark_only(text + at, (size_t)listed[marked]);
+    begin();
+    end(f_seal_batch.name, seal_batch(n), VESPRULDO_DONE, &none);
+    at = 0;
+    for (size_t i = 0; i < batch_cards; i++) {
+        size_t len = (size_t)listed[i];
+        bool own = i == marked && len > 0;
+        must_be(own, f_seal_batch.name, ciphertext + at, len);
+        must_be(own, f_seal_batch.name, tag + VESPRULDO_TAG_BYTES * i,
+                VESPRULDO_TAG_BYTES);
+        at += len;
+    }
+}
+
+static void check_batch_done(size_t data_len)
+{
+    struct lengths n = {.key = VESPRULDO_KEY_BYTES, .data = data_len,
+                        .tag = VESPRULDO_TAG_BYTES * batch_cards};
+    for (size_t i = 0; i < batch_cards; i++) {
+        n.text += (size_t)listed[i];
+    }
+    n.room = n.text;
+    check_batch(n, VESPRULDO_DONE);
+    check_arrival(&f_seal_batch, n);
+    check_draws_of(n, VESPRULDO_DONE, batch_cards);
+    for (size_t i = 0; i < batch_cards; i++) {
+        check_apart(n, i);
+    }
+    batch_drawer.count = UINT64_MAX - batch_cards + 1;
+    check_batch(n, VESPRULDO_DRAWER_SPENT);
+    check_draws_of(n, VESPRULDO_DRAWER_SPENT, 0);
+    batch_drawer.count = 5;
+}
+
+/* Lengths round the borders of blocks and halves, and empty texts too. */
+static void check_batches(void)
+{
+    static const struct {
+        size_t cards;
+        uint64_t listed[VESPRULDO_BATCH_MAX];
+    } batches[] = {
+        {1, {0}},
+        {1, {17}},
+        {2, {0, 0}},
+        {3, {16, 0, 33}},
+        {4, {5, 64, 8, 1}},
+        {12, {0, 1, 7, 8, 9, 15, 16, 17, 31, 32, 33, 48}},
+        {12, {0}},
+    };
+    static const size_t data_lens[] = {0, 1, 16, 17};
+    batch_drawer = vespruldo_drawer_start(7, 5);
+    for (size_t i = 0; i < COUNT(batches); i++) {
+        batch_cards = batches[i].cards;
+        memcpy(listed, batches[i].listed, sizeof batches[i].listed);
+        for (size_t j = 0; j < COUNT(data_lens); j++) {
+            check_batch_done(data_lens[j]);
+        }
+    }
+}
+
+/* Refused: nothing marked is looked at. A text is of 8 bytes, the second of so
+   many, and others are empty. */
+static void check_refused_batches(void)
+{
+    static const struct {
+        struct lengths n;
+        size_t cards;
+        uint64_t second;
+        uint32_t number;
+    } cases[] = {
+        {{15, 0, 9, 20, 32, 20}, 2, 12, 1},
+        {{16, 0, 65537, 20, 32, 20}, 2, 12, 3},
+        {{16, 0, 9, 20, 32, 20}, 2, 1048577, 4},
+        {{16, 0, 9, 20, 208, 20}, 13, UINT64_MAX, 4},
+        {{16, 0, 9, 20, 31, 20}, 2, 12, 5},
+        {{16, 0, 9, 20, 32, 19}, 2, 12, 6},
+        {{16, 0, 9, 20, 32, 20}, 2, 11, 18},
+        {{16, 0, 9, 20, 32, 20}, 2, 13, 18},
+        {{16, 0, 9, 20, 208, 20}, 13, 12, 18},
+        {{16, 0, 9, 0, 0, 20}, 0, 0, 18},
+    };
+    memset(listed, 0, sizeof listed);
+    listed[0] = 8;
+    for (size_t i = 0; i < COUNT(cases); i++) {
+        listed[1] = cases[i].second;
+        batch_cards = cases[i].cards;
+        check_batch(cases[i].n, cases[i].number);
     }
 }
 
@@ -710,6 +860,8 @@ int main(void)
     check_buffers();
     check_refusals();
     check_endings();
+    check_batches();
+    check_refused_batches();
     check_comparing();
     check_draws(5, VESPRULDO_DONE);
     check_draws(UINT64_MAX, VESPRULDO_DRAWER_SPENT);

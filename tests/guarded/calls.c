@@ -67,6 +67,15 @@ static uint32_t run_drawer_load(struct call *call)
     return call->loaded.number;
 }
 
+static uint32_t run_seal_batch(struct call *call)
+{
+    const struct loan *lengths = &call->loans[LENGTHS];
+    call->batch = vespruldo_seal_batch(
+        LENT(KEY), LENT(DATA), LENT(TEXT), (const void *)lengths->bytes,
+        lengths->len / LENGTH, call->drawer, LENT(ROOM), LENT(TAG));
+    return call->batch.number;
+}
+
 static uint32_t run_key_find(struct call *call)
 {
     call->found = vespruldo_key_find(LENT(THIS_TERM), LENT(LAST_TERM),
@@ -182,8 +191,9 @@ static uint32_t same_number(const struct call *call)
     {role, use, least, most, number, number, false}
 #define WITH_TEXT(role, use, least, most, too_short, too_long) \
     {role, use, least, most, too_short, too_long, true}
-/* Any length, and nothing to be refused. */
-#define ANY(role) PART(role, READ, 0, SIZE_MAX, 0)
+/* Any length, and nothing to be refused, at least not for the length alone. */
+#define ANY_OF(role, use) PART(role, use, 0, SIZE_MAX, 0)
+#define ANY(role) ANY_OF(role, READ)
 
 /* Rows that several functions share. */
 #define CARD_KEY PART(KEY, READ, 16, 16, 1)
@@ -253,6 +263,15 @@ const struct function functions[FUNCTIONS] = {
     [DRAWER_LOAD] = {.name = "vespruldo_drawer_load", .run = run_drawer_load,
                      .number = loading_number, .refusals = {106},
                      .part_count = 1, .parts = {ANY(STORED)}},
+    /* 4 comes before 5 and 6, and is one of what the lengths say: so the number
+       is told by a function. */
+    [SEAL_BATCH] = {.name = "vespruldo_seal_batch", .run = run_seal_batch,
+                    .number = plain_batch_number, .check_rest = check_drawer,
+                    .refusals = {4, 5, 6, 9, 18},
+                    .part_count = 6,
+                    .parts = {CARD_KEY, CARD_DATA, ANY(TEXT), ANY(LENGTHS),
+                              ANY_OF(TAG, WRITTEN),
+                              WITH_TEXT(ROOM, WRITTEN, 0, SIZE_MAX, 0, 0)}},
     [KEY_FIND] = {.name = "vespruldo_key_find", .run = run_key_find,
                   .number = find_number, .refusals = {10, 11},
                   .part_count = 2,
@@ -302,15 +321,16 @@ static const char *const role_names[ROLES] = {
     [NONCE] = "nonce or iv",
     [DATA] = "data",
     [TEXT] = "text, block, card, pack, drawer or this term's book",
-    [TAG] = "tag",
+    [LENGTHS] = "lengths",
+    [TAG] = "tag or tags",
     [ROOM] = "room or last term's book",
 };
 
 /* The longest lengths that cases have, with some to spare; text and room hold
-   the longest book, of 65,535 entries. */
+   the longest book, of 65,535 entries, lengths and tags 6,000 cards. */
 static const size_t role_bytes[ROLES] = {
-    [KEY] = 8192, [NONCE] = 8192,   [DATA] = 66000,
-    [TAG] = 8192, [TEXT] = 1180000, [ROOM] = 1180000,
+    [KEY] = 8192,      [NONCE] = 8192, [DATA] = 66000,   [TEXT] = 1180000,
+    [LENGTHS] = 48000, [TAG] = 96000,  [ROOM] = 1180000,
 };
 
 void make_arenas(struct thread *thread)

@@ -10,7 +10,7 @@
 #include "random.h"
 
 /* What a buffer is for. */
-enum role { KEY, NONCE, DATA, TEXT, TAG, ROOM, ROLES };
+enum role { KEY, NONCE, DATA, TEXT, LENGTHS, TAG, ROOM, ROLES };
 
 /* Books, and two buffers to be compared, are lent in the arenas of text and
    room: no call has all of these. So are a pack, a card that is opened and a
@@ -39,8 +39,8 @@ struct part {
 enum function_name {
     CARD_SEAL, CARD_OPEN, SEAL, OPEN, SEAL_SHORT, OPEN_SHORT,
     SEAL_IN_PLACE, OPEN_IN_PLACE,
-    DRAWER_START, DRAWER_DRAW, DRAWER_IV, DRAWER_STORE, DRAWER_LOAD, KEY_FIND,
-    PACK_NEXT, PACK_JUDGE,
+    DRAWER_START, DRAWER_DRAW, DRAWER_IV, DRAWER_STORE, DRAWER_LOAD,
+    SEAL_BATCH, KEY_FIND, PACK_NEXT, PACK_JUDGE,
     LIONESS_ENCIPHER, LIONESS_DECIPHER,
     GIFT_ENCIPHER, GIFT_DECIPHER, CHACHA20, BLAKE2B,
     SAME, VERSION, INTERFACE,
@@ -62,9 +62,10 @@ struct function {
     size_t part_count;
     /* In the order of their refusals. */
     struct part parts[6];
-    /* Refusals that are not ones of a length, and 0 behind them. What is not a
-       refusal is counted as one: that two buffers are the same. */
-    uint32_t refusals[4];
+    /* Refusals that are not ones of a length, and 0 in places that are left.
+       What is not a refusal is counted as one: that two buffers are the
+       same. */
+    uint32_t refusals[5];
     /* Works in one buffer, and this function gives back what was there. */
     const struct function *undone_by;
     /* Seals, and this function opens. */
@@ -80,6 +81,9 @@ extern const struct function functions[FUNCTIONS];
 /* All numbers are smaller. */
 #define NUMBERS 107
 
+/* How many bytes each of the lengths has that a batch is given. */
+#define LENGTH sizeof(uint64_t)
+
 /* How many counters a key stream has: they go from 0 to 2^32 - 1. */
 #define COUNTERS ((uint64_t)1 << 32)
 
@@ -89,11 +93,13 @@ struct call {
     uint64_t start;
     uint16_t class_number;
     size_t place;
+    vespruldo_drawer drawer;
     /* What is to be opened was sealed so; what is to be loaded, stored so. */
     bool opens;
     vespruldo_found found;
     vespruldo_loaded loaded;
     vespruldo_streamed streamed;
+    vespruldo_batch batch;
     vespruldo_pack_card card;
     vespruldo_pack_judged judged;
 };
@@ -159,5 +165,11 @@ vespruldo_found plain_find(const struct call *call);
 /* The number that reading the pack must answer, by a plain walk; it stands in
    packs.c. */
 uint32_t plain_pack_number(const struct call *call);
+
+/* The number that sealing the batch must answer where key and data have right
+   lengths, and whether its next drawer is the right one; they stand in
+   batches.c. */
+uint32_t plain_batch_number(const struct call *call);
+void check_drawer(const struct thread *thread, const struct call *call);
 
 #endif

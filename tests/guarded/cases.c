@@ -401,6 +401,9 @@ void make_case(struct thread *thread, uint64_t case_number)
     case DRAWER_LOAD:
         drawer_case(thread);
         break;
+    case SEAL_BATCH:
+        batch_case(thread, long_turn);
+        break;
     case KEY_FIND:
         book_case(thread, long_turn);
         break;

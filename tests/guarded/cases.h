@@ -20,6 +20,10 @@ void check_shuffles(struct thread *thread);
    out by hand. */
 void check_worked_streams(struct thread *thread);
 
+/* The same for batches: which are refused with which number, as worked out by
+   hand. */
+void check_worked_batches(struct thread *thread);
+
 /* Makes the case that the thread's seed and this number give. */
 void make_case(struct thread *thread, uint64_t case_number);
 
@@ -28,6 +32,7 @@ void make_case(struct thread *thread, uint64_t case_number);
 void buffer_case(struct thread *thread, enum function_name name,
                  size_t long_turn);
 void drawer_case(struct thread *thread);
+void batch_case(struct thread *thread, size_t long_turn);
 void book_case(struct thread *thread, size_t long_turn);
 void pack_case(struct thread *thread);
 void same_case(struct thread *thread);

@@ -68,6 +68,7 @@ static void *run_thread(void *argument)
     check_cut_packs(thread);
     check_shuffles(thread);
     check_worked_streams(thread);
+    check_worked_batches(thread);
     for (uint64_t n = thread->number; n < cases; n += thread_count) {
         make_case(thread, n);
     }

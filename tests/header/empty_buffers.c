@@ -52,6 +52,27 @@ static void sealing(void)
        vespruldo_card_open(key, sizeof key, NULL, 0, NULL, 0, NULL, 0));
 }
 
+/* An empty text can be a card of a batch, and all of them can; but no cards at
+   all are no batch. */
+static void batches(void)
+{
+    const uint64_t lengths[] = {0, 0};
+    const vespruldo_drawer last_two = {4, UINT64_MAX - 2};
+    uint8_t tags[2 * VESPRULDO_TAG_BYTES];
+    vespruldo_batch batch =
+        vespruldo_seal_batch(key, sizeof key, NULL, 0, NULL, 0, lengths, 2,
+                             last_two, NULL, 0, tags, sizeof tags);
+    is("seal_batch", VESPRULDO_DONE, batch.number);
+    is("seal_batch, next", 1, batch.next.count == UINT64_MAX);
+    batch = vespruldo_seal_batch(key, sizeof key, NULL, 0, NULL, 0, NULL, 0,
+                                 batch.next, NULL, 0, NULL, 0);
+    is("seal_batch of nothing", VESPRULDO_BATCH_FORM, batch.number);
+    is("seal_batch of nothing, next", 1, batch.next.count == UINT64_MAX);
+    batch = vespruldo_seal_batch(NULL, 0, NULL, 0, NULL, 0, NULL, 0, last_two,
+                                 NULL, 0, NULL, 0);
+    is("seal_batch without a key", VESPRULDO_KEY_LENGTH, batch.number);
+}
+
 /* An empty text uses no counter: it can come where all are used up, but not
    beyond that. */
 static void streaming(void)
@@ -106,6 +127,7 @@ static void others(void)
 int main(void)
 {
     sealing();
+    batches();
     streaming();
     others();
     return bad;

@@ -5,6 +5,8 @@
 
 extern const uint8_t key[16], nonce[12], stream_key[32];
 extern uint8_t tag[16], small[20], *text;
+extern const uint64_t lengths[2];
+extern vespruldo_drawer drawer;
 extern size_t len;
 
 uint32_t called(void);
@@ -68,5 +70,30 @@ uint32_t called(void)
 #elif MISTAKE == 16 /* stringop-overread */
     /* So has the key. */
     return vespruldo_chacha20(key, 32, nonce, 12, 0, text, len).number;
+#elif MISTAKE == 17 /* unused-result */
+    /* Nobody keeps the drawer that a batch hands back. */
+    vespruldo_seal_batch(key, 16, NULL, 0, text, len, lengths, 1, drawer, small,
+                         20, tag, 16);
+    return 0;
+#elif MISTAKE == 18 /* restrict */
+    /* Its texts and its room are one buffer. */
+    return vespruldo_seal_batch(key, 16, NULL, 0, text, len, lengths, 1, drawer,
+                                text, len, tag, 16)
+        .number;
+#elif MISTAKE == 19 /* stringop-overflow= */
+    /* There is room for one tag, and there are two lengths. */
+    return vespruldo_seal_batch(key, 16, NULL, 0, text, len, lengths, 2, drawer,
+                                small, 20, tag, 32)
+        .number;
+#elif MISTAKE == 20 /* stringop-overread */
+    /* There are two lengths, and not as many as they have bytes. */
+    return vespruldo_seal_batch(key, 16, NULL, 0, text, len, lengths,
+                                sizeof lengths, drawer, small, 20, tag, 16)
+        .number;
+#elif MISTAKE == 21 /* nonnull */
+    /* There are none. */
+    return vespruldo_seal_batch(key, 16, NULL, 0, text, len, NULL, 1, drawer,
+                                small, 20, tag, 16)
+        .number;
 #endif
 }
