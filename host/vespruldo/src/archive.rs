@@ -35,6 +35,15 @@ pub struct Loaded {
     pub drawer: Drawer,
 }
 
+/// What sealing a batch answers: the document's number, and the drawer that is
+/// handed back.
+#[repr(C)]
+#[derive(Clone, Copy, Debug, PartialEq, Eq)]
+pub struct Batch {
+    pub number: u32,
+    pub next: Drawer,
+}
+
 /// What a lookup answers: the document's number, the book (0 for this term's, 1
 /// for last term's), and where in it the key begins.
 #[repr(C)]
@@ -228,6 +237,21 @@ extern "C" {
     pub fn vespruldo_drawer_iv(drawer: Drawer) -> Drawn<48>;
     pub fn vespruldo_drawer_store(drawer: Drawer) -> Stored;
     pub fn vespruldo_drawer_load(bytes: *const u8, bytes_len: usize) -> Loaded;
+    pub fn vespruldo_seal_batch(
+        key: *const u8,
+        key_len: usize,
+        data: *const u8,
+        data_len: usize,
+        texts: *const u8,
+        texts_len: usize,
+        lengths: *const u64,
+        lengths_len: usize,
+        drawer: Drawer,
+        room: *mut u8,
+        room_len: usize,
+        tags: *mut u8,
+        tags_len: usize,
+    ) -> Batch;
     pub fn vespruldo_key_find(
         this_term: *const u8,
         this_term_len: usize,

@@ -183,7 +183,7 @@ macro_rules! used_once {
 /// Sets every byte to 0. Nobody reads them afterwards, so the compiler would
 /// leave plain writes out; it keeps volatile ones, and the fence keeps those
 /// before whatever is done with the memory next.
-fn wipe(bytes: &mut [u8]) {
+pub(crate) fn wipe(bytes: &mut [u8]) {
     for byte in bytes {
         // SAFETY: the byte is lent mutably.
         unsafe { ptr::write_volatile(byte, 0) };

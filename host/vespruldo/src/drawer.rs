@@ -4,7 +4,7 @@ use crate::archive::{
     self, vespruldo_drawer_draw, vespruldo_drawer_iv, vespruldo_drawer_load,
     vespruldo_drawer_start, vespruldo_drawer_store, Drawn,
 };
-use crate::bytes::{Iv, Nonce};
+use crate::bytes::{Iv, Nonce, UsedNonce};
 use crate::refusal::{result_of, Refusal};
 use crate::sizes::DRAWER_BYTES;
 
@@ -91,7 +91,7 @@ impl Drawer {
     /// [`Refusal::DrawerSpent`] if the count is 2^64 - 1.
     pub fn draw(&mut self) -> Result<Nonce, Refusal> {
         // SAFETY: see the crate's root.
-        self.hand_over(|drawer| unsafe { vespruldo_drawer_draw(drawer) })
+        self.draw_by(|drawer| unsafe { vespruldo_drawer_draw(drawer) })
             .map(Nonce::never_used)
     }
 
@@ -114,7 +114,7 @@ impl Drawer {
     /// As for [`Drawer::draw`].
     pub fn draw_iv(&mut self) -> Result<Iv, Refusal> {
         // SAFETY: see the crate's root.
-        self.hand_over(|drawer| unsafe { vespruldo_drawer_iv(drawer) })
+        self.draw_by(|drawer| unsafe { vespruldo_drawer_iv(drawer) })
             .map(Iv::never_used)
     }
 
@@ -144,10 +144,11 @@ impl Drawer {
     /// Where writing can be cut off, a drawer needs two places, as in
     /// `examples/flash.c` of the repository: write to the two in turn, and read
     /// back what was written; after a restart go on from the one with the greater
-    /// count, and write to the other first; if only one can be loaded, draw and
-    /// store once more, and throw that number away. Erase both before a new drawer
-    /// is written. In a file system, write a new file in the same folder, sync it,
-    /// rename it over the old one, and sync the folder.
+    /// count, and write to the other first; if only one can be loaded, the other may
+    /// have been ahead by all that is drawn in one go, for a batch twelve numbers:
+    /// draw so many, store the drawer, and throw them away. Erase both before a new
+    /// drawer is written. In a file system, write a new file in the same folder, sync
+    /// it, rename it over the old one, and sync the folder.
     ///
     /// Programs that draw from one file must take turns, or both draw the same
     /// number. While the tool `cards` draws, there is a folder `FILE.next`:
@@ -189,18 +190,73 @@ impl Drawer {
         Ok(Drawer(loaded.drawer))
     }
 
-    /// Hands the drawer to `draw` and, unless that refuses, takes the one handed
-    /// back in its place.
-    fn hand_over<const N: usize>(
+    /// Draws by this function of the archive: answers its bytes.
+    fn draw_by<const N: usize>(
         &mut self,
         draw: impl FnOnce(archive::Drawer) -> Drawn<N>,
     ) -> Result<[u8; N], Refusal> {
-        let drawn = draw(self.0);
-        result_of(drawn.number, &[Refusal::DrawerSpent])?;
-        self.0 = drawn.next;
-        Ok(drawn.bytes)
+        self.hand_over(&[Refusal::DrawerSpent], |drawer| {
+            let drawn = draw(drawer);
+            (drawn.number, drawn.next, drawn.bytes)
+        })
+    }
+
+    /// Hands the drawer to a function of the archive, which promises these
+    /// refusals and answers a number, the drawer handed back, and more. Unless it
+    /// refuses, that drawer is taken in the place of this one.
+    pub(crate) fn hand_over<T>(
+        &mut self,
+        promised: &[Refusal],
+        asked: impl FnOnce(archive::Drawer) -> (u32, archive::Drawer, T),
+    ) -> Result<T, Refusal> {
+        let (number, next, answer) = asked(self.0);
+        result_of(number, promised)?;
+        self.0 = next;
+        Ok(answer)
     }
 }
+
+/// The nonces of the cards of a batch, in their order. They have been drawn and
+/// used; each is needed to open its card.
+#[derive(Clone, Debug)]
+#[must_use = "no card is opened without its nonce"]
+pub struct UsedNonces {
+    next: archive::Drawer,
+    end: u64,
+}
+
+impl UsedNonces {
+    /// All that were drawn from the one drawer until it became the other.
+    pub(crate) fn between(before: archive::Drawer, after: archive::Drawer) -> UsedNonces {
+        UsedNonces {
+            next: before,
+            end: after.count,
+        }
+    }
+}
+
+impl Iterator for UsedNonces {
+    type Item = UsedNonce;
+
+    fn next(&mut self) -> Option<UsedNonce> {
+        if self.next.count >= self.end {
+            return None;
+        }
+        // The same draw once more, of which nothing fresh is handed out.
+        let mut drawer = Drawer(self.next);
+        let drawn = drawer.draw().ok()?;
+        self.next = drawer.0;
+        Some(UsedNonce::from(drawn))
+    }
+
+    fn size_hint(&self) -> (usize, Option<usize>) {
+        let left = self.end.saturating_sub(self.next.count);
+        let left = usize::try_from(left);
+        (left.unwrap_or(usize::MAX), left.ok())
+    }
+}
+
+impl ExactSizeIterator for UsedNonces {}
 
 #[cfg(test)]
 mod tests {
@@ -218,7 +274,7 @@ mod tests {
     /// What a made-up draw with this number answers, and leaves of a drawer.
     fn after(number: u32) -> (Result<[u8; 2], Refusal>, Drawer) {
         let mut drawer = Drawer(BEFORE);
-        let drawn = drawer.hand_over(|handed| {
+        let drawn = drawer.draw_by(|handed| {
             assert_eq!(handed, BEFORE);
             Drawn {
                 number,
@@ -233,6 +289,20 @@ mod tests {
     fn drawer_handed_back_is_taken_unless_the_draw_is_refused() {
         assert_eq!(after(0), (Ok([3, 4]), Drawer(NEXT)));
         assert_eq!(after(9), (Err(Refusal::DrawerSpent), Drawer(BEFORE)));
+    }
+
+    #[test]
+    fn used_nonces_are_the_draws_between_two_drawers() {
+        let mut drawer = Drawer::start(5, u64::MAX - 3);
+        let before = drawer.0;
+        assert_eq!(UsedNonces::between(before, drawer.0).len(), 0);
+        let drawn = [(); 3].map(|()| UsedNonce::from(drawer.draw().expect("a draw")));
+        let used = UsedNonces::between(before, drawer.0);
+        assert_eq!(used.len(), 3);
+        assert_eq!(used.clone().skip(1).len(), 2);
+        assert!(used.eq(drawn));
+        // No batch hands back an older drawer.
+        assert_eq!(UsedNonces::between(drawer.0, before).next(), None);
     }
 
     #[test]

@@ -1,9 +1,10 @@
-//! Whole cards, in room that is lent, with types of fixed lengths.
+//! Whole cards, and batches, in room that is lent, with types of fixed lengths.
 
 use crate::bytes::{Key, Nonce};
 use crate::data::Data;
+use crate::drawer::{Drawer, UsedNonces};
 use crate::refusal::Refusal;
-use crate::sizes::CARD_EXTRA;
+use crate::sizes::{CARD_EXTRA, TAG_BYTES};
 use crate::slices;
 
 /// Seals `text` into a card, as [`slices::card_seal`] lays it out, and answers how
@@ -62,4 +63,62 @@ pub fn card_open(key: &Key, data: Data, card: &[u8], room: &mut [u8]) -> Result<
     slices::card_open(key.as_bytes(), data.0, card, room)?;
     // A card that is opened has these 30 bytes.
     Ok(card.len() - CARD_EXTRA)
+}
+
+/// Seals 1 to 12 texts in one call, in order and with the next draws of the drawer,
+/// and answers the nonces drawn, now used ones. `texts` has the texts end to end,
+/// and `lengths` the length of each; any may be empty. All have the same associated
+/// data.
+///
+/// The ciphertexts go end to end to the first bytes of `room`, as many as `texts`
+/// has; the rest of longer room keeps its bytes. The tags go to `tags`, in the same
+/// order. Each card is opened by itself, by
+/// [`open_in_place`](crate::open_in_place) or [`slices::open`].
+///
+/// The drawer is moved on by as many draws as there are texts. Store its bytes
+/// before any of the cards is handed on; until then room and tags must be memory
+/// that nobody else reads and that a restart loses. If this is refused, nothing was
+/// drawn, the drawer is what it was, and so are room and tags.
+///
+/// ```
+/// use vespruldo::{open_in_place, seal_batch_into, Data, Drawer, Key, Tag};
+///
+/// let (key, data) = (Key::from([1; 16]), Data(b"class 7"));
+/// let mut drawer = Drawer::start(42, 0);
+/// let (mut room, mut tags) = ([0; 5], [[0; 16]; 2]);
+///
+/// let lengths = [3, 2];
+/// let mut nonces =
+///     seal_batch_into(&key, &mut drawer, data, b"catox", &lengths, &mut room, &mut tags)?;
+/// // Here `drawer.to_bytes()` is stored.
+///
+/// let (cat, ox) = room.split_at_mut(3);
+/// for (card, tag) in [cat, ox].into_iter().zip(tags) {
+///     let nonce = nonces.next().expect("one for each card");
+///     open_in_place(&key, &nonce, data, card, &Tag::from(tag))?;
+/// }
+/// assert_eq!(room, *b"catox");
+/// # Ok::<(), vespruldo::Refusal>(())
+/// ```
+///
+/// # Errors
+///
+/// The first of these that applies: [`Refusal::DataLength`] if the associated
+/// data is longer than 65,536 bytes, [`Refusal::TextLength`] if any one of the
+/// lengths is over 1,048,576, [`Refusal::TagLength`] if there is not one tag of 16
+/// bytes for each length, [`Refusal::RoomLength`] if the room is shorter than all
+/// of `texts`, [`Refusal::DrawerSpent`] if fewer draws are left than there are
+/// lengths, [`Refusal::BatchForm`] if there are not 1 to 12 lengths or they do not
+/// add up to that of `texts`.
+pub fn seal_batch_into(
+    key: &Key,
+    drawer: &mut Drawer,
+    data: Data,
+    texts: &[u8],
+    lengths: &[u64],
+    room: &mut [u8],
+    tags: &mut [[u8; TAG_BYTES]],
+) -> Result<UsedNonces, Refusal> {
+    let tags = tags.as_flattened_mut();
+    slices::seal_batch(key.as_bytes(), data.0, texts, lengths, drawer, room, tags)
 }

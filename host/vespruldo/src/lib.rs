@@ -30,6 +30,22 @@
 //! the archive's own functions for whole cards have the same layout. What is
 //! longer is sealed too, up to 1,048,576 bytes, and stored in the caller's way.
 //!
+//! A lesson of up to twelve texts is sealed in one call, as if each were sealed in
+//! turn with the next draw. Its drawer is stored once, before any card is handed
+//! on, and a refused batch has drawn nothing:
+//!
+//! ```
+//! use vespruldo::{open, seal_batch, Data, Drawer, Key};
+//!
+//! let key = Key::from([1; 16]);
+//! let mut drawer = Drawer::start(42, 0);
+//! let cards = seal_batch(&key, &mut drawer, Data(b"class 7"), &["cat", "ox", "duck"])?;
+//! // Here the new `drawer.to_bytes()` is stored.
+//! assert_eq!(drawer.count(), 3);
+//! assert_eq!(open(&key, Data(b"class 7"), &cards[1])?, b"ox");
+//! # Ok::<(), vespruldo::Refusal>(())
+//! ```
+//!
 //! The key can stay in its key book:
 //!
 //! ```
@@ -75,6 +91,8 @@
 //!   [`KeyStream::again`] goes on with a key stream under one, and must be told
 //!   where.
 //! - A [`Drawer`] cannot be copied: a copy would hand out the same numbers.
+//!   [`seal_batch`] and [`seal_batch_into`] are lent it, draw by themselves, and
+//!   leave it moved on; the nonces come back as used ones.
 //! - A [`KeyStream`] cannot be copied either, and carries its own counter: it goes
 //!   on where it stopped, with bursts of whole blocks.
 //! - A [`Key`], [`StreamKey`] or [`WideKey`] has no `==`, is shown without its
@@ -89,15 +107,16 @@
 //!
 //! The lengths that are allowed have names in [`sizes`]. The functions in
 //! [`slices`] take slices of any length and write to room that is lent; those at
-//! the root allocate what [`seal`] and [`open`] and their short forms answer, and
-//! a card's bytes, and nothing else.
+//! the root allocate what [`seal`] and [`open`] and their short forms answer, what
+//! [`seal_batch`] needs and answers, and a card's bytes, and nothing else.
 //!
 //! The crate does without `std`. What allocates is in the feature `alloc`, which
 //! is on by default: with `default-features = false` there is no heap, and no
-//! [`Sealed`], [`seal`], [`open`] or short form. [`card_seal`] and [`card_open`],
-//! [`seal_in_place`] and [`open_in_place`] do the same work in memory that is
-//! lent. The archive uses SSE2's registers, as all x86-64 code may: where there is
-//! no operating system, the program must have turned them on.
+//! [`Sealed`], [`seal`], [`open`], short form or [`seal_batch`]. [`card_seal`] and
+//! [`card_open`], [`seal_in_place`] and [`open_in_place`], and [`seal_batch_into`]
+//! do the same work in memory that is lent. The archive uses SSE2's registers, as
+//! all x86-64 code may: where there is no operating system, the program must have
+//! turned them on.
 
 #![cfg_attr(not(test), no_std)]
 // What is not there without a heap is named on these pages all the same.
@@ -110,8 +129,9 @@ extern crate alloc;
 // writes only the buffers it is handed, each within its length, and wants those
 // it writes to lie apart from all others. Every call hands over each slice's
 // own pointer and length, the slices are lent for the whole call, and each
-// written one (two in sealing: room or buffer, and tag) is lent mutably, so no
-// other overlaps it. Key books, packs and what is compared are only read and may
+// written one (two in sealing: room or buffer, and tag or tags) is lent mutably,
+// so no other overlaps it. A batch's lengths are a slice of numbers, and their
+// count goes with it. Key books, packs and what is compared are only read and may
 // overlap. Drawers, and answers that are more than a number, go by value in the
 // layout that C gives them; they hold only numbers and bytes, for which every
 // value is allowed. The one `bool` comes back as C has it, in a byte that is 0
@@ -119,6 +139,8 @@ extern crate alloc;
 
 #[doc(hidden)]
 pub mod archive;
+#[cfg(feature = "alloc")]
+mod batch;
 mod blocks;
 mod books;
 mod bytes;
@@ -134,15 +156,17 @@ pub mod sizes;
 pub mod slices;
 mod stream;
 
+#[cfg(feature = "alloc")]
+pub use batch::seal_batch;
 pub use blocks::{gift_decipher, gift_encipher, lioness_decipher, lioness_encipher};
 pub use books::find_key;
 pub use bytes::{Iv, Key, Nonce, StreamKey, Tag, UsedIv, UsedNonce, WideKey};
 #[cfg(feature = "alloc")]
 pub use cards::{open, open_short, seal, seal_short, Sealed};
 pub use data::Data;
-pub use drawer::Drawer;
+pub use drawer::{Drawer, UsedNonces};
 pub use in_place::{open_in_place, seal_in_place};
-pub use lent::{card_open, card_seal};
+pub use lent::{card_open, card_seal, seal_batch_into};
 pub use packs::{Pack, PackCard, PackCards, PackRefusal};
 pub use refusal::{NotARefusal, Refusal};
 #[doc(inline)]

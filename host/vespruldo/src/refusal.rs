@@ -1,4 +1,4 @@
-//! The refusals: those of document 01's table "What comes back", four of document
+//! The refusals: those of document 01's table "What comes back", five of document
 //! 02, and one of the tool `cards`.
 
 use core::error::Error;
@@ -11,9 +11,9 @@ macro_rules! refusals {
     ($($name:ident = $number:literal, $words:literal;)+) => {
         /// Why a call was refused, by its number: 1 to 11 are the rows of document
         /// 01's table "What comes back", 12 to 15 are given for a lesson pack, 12
-        /// and 15 also for a card that is not as long as it says, and 106 is that
-        /// of the tool `cards`. Each function says what the buffers lent to it
-        /// hold then.
+        /// and 15 also for a card that is not as long as it says, 18 for a batch,
+        /// and 106 is that of the tool `cards`. Each function says what the
+        /// buffers lent to it hold then.
         ///
         /// A later version may have more of them, so a `match` needs a line for
         /// the others.
@@ -67,6 +67,7 @@ refusals! {
     CountOrLength = 13, "count or length not allowed";
     BadShuffle = 14, "bad shuffle";
     LeftOver = 15, "bytes left over";
+    BatchForm = 18, "no cards, more than 12, or lengths that don't add up to the text";
     DrawerDamaged = 106, "drawer file damaged";
 }
 

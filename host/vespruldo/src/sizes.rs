@@ -1,6 +1,7 @@
 //! The lengths in bytes that are allowed, by the names of the C header without
 //! its prefix: `_BYTES` is the only one, `_MIN` and `_MAX` are the least and the
-//! greatest, `_EXTRA` is what a card has besides its ciphertext.
+//! greatest, `_EXTRA` is what a card has besides its ciphertext. One of them is a
+//! number of cards.
 
 /// Key for sealing, opening and GIFT-128.
 pub const KEY_BYTES: usize = 16;
@@ -14,6 +15,8 @@ pub const CARD_EXTRA: usize = 30;
 pub const CARD_TEXT_MAX: usize = 65_535;
 /// A drawer that is stored.
 pub const DRAWER_BYTES: usize = 44;
+/// Cards of a batch.
+pub const BATCH_MAX: usize = 12;
 /// A lesson pack that is not refused.
 pub const PACK_MAX: usize = 16_893;
 /// Associated data for sealing and opening.

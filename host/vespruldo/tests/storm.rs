@@ -49,6 +49,7 @@ enum Entry {
     DrawerIv,
     DrawerStore,
     DrawerLoad,
+    SealBatch,
     KeyFind,
     PackNext,
     PackJudge,
@@ -57,27 +58,28 @@ enum Entry {
 
 /// Each entry point, how many of a thousand cases are its own, and the numbers
 /// that it answers.
-const ENTRIES: [(Entry, usize, &[u32]); 23] = [
+const ENTRIES: [(Entry, usize, &[u32]); 24] = [
     (Entry::Seal, 50, &[0, 1, 2, 3, 4, 5, 6]),
-    (Entry::Open, 65, &[0, 1, 2, 3, 4, 5, 6, 7]),
+    (Entry::Open, 60, &[0, 1, 2, 3, 4, 5, 6, 7]),
     (Entry::SealShort, 40, &[0, 1, 2, 4, 5, 6]),
     (Entry::OpenShort, 50, &[0, 1, 2, 4, 5, 6, 7]),
     (Entry::SealInPlace, 45, &[0, 1, 2, 3, 4, 5]),
-    (Entry::OpenInPlace, 55, &[0, 1, 2, 3, 4, 5, 7]),
+    (Entry::OpenInPlace, 50, &[0, 1, 2, 3, 4, 5, 7]),
     (Entry::CardSeal, 45, &[0, 1, 2, 3, 4, 6]),
-    (Entry::CardOpen, 75, &[0, 1, 3, 6, 7, 12, 15]),
+    (Entry::CardOpen, 65, &[0, 1, 3, 6, 7, 12, 15]),
     (Entry::GiftEncipher, 35, &[0, 1, 4]),
     (Entry::GiftDecipher, 35, &[0, 1, 4]),
-    (Entry::ChaCha20, 75, &[0, 1, 2, 4, 8]),
-    (Entry::Blake2b, 60, &[0, 1, 4, 6]),
+    (Entry::ChaCha20, 65, &[0, 1, 2, 4, 8]),
+    (Entry::Blake2b, 55, &[0, 1, 4, 6]),
     (Entry::LionessEncipher, 40, &[0, 1, 2, 4]),
     (Entry::LionessDecipher, 40, &[0, 1, 2, 4]),
     (Entry::DrawerStart, 15, &[0]),
-    (Entry::DrawerDraw, 35, &[0, 9]),
+    (Entry::DrawerDraw, 30, &[0, 9]),
     (Entry::DrawerIv, 35, &[0, 9]),
     (Entry::DrawerStore, 25, &[0]),
     (Entry::DrawerLoad, 35, &[0, 106]),
-    (Entry::KeyFind, 60, &[0, 10, 11]),
+    (Entry::SealBatch, 45, &[0, 1, 3, 4, 5, 6, 9, 18]),
+    (Entry::KeyFind, 55, &[0, 10, 11]),
     (Entry::PackNext, 40, &[0, 12, 13, 14, 15]),
     (Entry::PackJudge, 25, &[0, 12, 13, 14, 15]),
     (Entry::Same, 20, &[0, 1]),
@@ -392,6 +394,39 @@ fn compare_loads(random: &mut Random) -> u32 {
     loaded.number
 }
 
+/// The lengths of a batch, mostly right ones.
+fn batch_lengths(random: &mut Random) -> Vec<u64> {
+    let (few, any) = (1 + up_to(random, 3), 1 + up_to(random, 11));
+    let none_or_many = one_of(random, &[0, 13, 14, 40]);
+    let cards = one_of(random, &[few, few, few, any, any, any, any, none_or_many]);
+    let mut lengths: Vec<u64> = (0..cards).map(|_| up_to(random, 20) as u64).collect();
+    if cards > 0 && once_in(random, 16) {
+        let long = one_of(random, &[LONGEST_TEXT as u64 + 1, 1 << 32, u64::MAX]);
+        lengths[up_to(random, cards - 1)] = long;
+    }
+    lengths
+}
+
+/// Both seal a batch, with a drawer that is sometimes nearly spent.
+fn compare_batches(random: &mut Random) -> u32 {
+    let listed = batch_lengths(random);
+    let (reader, mut count) = drawer_numbers(random);
+    if once_in(random, 4) {
+        count = u64::MAX - up_to(random, 14) as u64;
+    }
+    let sum: u64 = listed.iter().filter(|len| **len <= 20).sum();
+    let sizes = [
+        Size::Exactly(16),
+        DATA,
+        Size::Exactly(sum as usize),
+        Size::Exactly(16 * listed.len()),
+        Size::Room(2, 0),
+    ];
+    let [key, data, texts, tags, room] = lengths(random, sizes);
+    let pair = pairs::seal_batch(&listed, drawer::start(reader, count));
+    pair.compare(random, [key, data, texts], [room, tags])
+}
+
 /// Two buffers are compared: the same, or with a bit flipped, or another length.
 fn compare_comparisons(random: &mut Random) -> u32 {
     let len = up_to(random, 80);
@@ -491,7 +526,8 @@ fn compare_cards(random: &mut Random) -> u32 {
     compare_packs(random, |pack| compare_next(pack, place)).number
 }
 
-/// The pairs that a thread compares; ChaCha20's depends on where it starts.
+/// The pairs that a thread compares; ChaCha20's depends on where it starts, and a
+/// batch's on its lengths and its drawer.
 struct Pairs {
     seal: Pair<4, 2>,
     open: Pair<5, 1>,
@@ -552,6 +588,7 @@ impl Pairs {
             Entry::DrawerIv => compare_draws(random, archive::vespruldo_drawer_iv, drawer::iv),
             Entry::DrawerStore => compare_stores(random),
             Entry::DrawerLoad => compare_loads(random),
+            Entry::SealBatch => compare_batches(random),
             Entry::KeyFind => compare_lookups(random),
             Entry::PackNext => compare_cards(random),
             Entry::PackJudge => compare_packs(random, compare_judges).number,

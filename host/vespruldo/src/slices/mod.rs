@@ -2,10 +2,12 @@
 //!
 //! They refuse all that the archive refuses, including what the types of the
 //! crate's root rule out, and allocate nothing: they write to room that is lent.
-//! Nothing here keeps a nonce or an iv from being used twice.
+//! Nothing here keeps a nonce or an iv from being used twice, but where a drawer
+//! is lent, which moves on.
 
-/// Calls a function of the archive with the slices that it reads, the number
-/// that some take, the slices that it writes, and one that it reads after those.
+/// Calls a function of the archive with the slices that it reads, the number or
+/// drawer that some take, the slices that it writes, and one that it reads after
+/// those.
 macro_rules! call {
     ($function:ident: $($read:ident),*; $($written:ident),*) => {
         call!($function: $($read),*; ; $($written),*;)
@@ -29,6 +31,7 @@ macro_rules! call {
     };
 }
 
+mod batch;
 mod blake;
 mod books;
 mod card;
@@ -40,6 +43,7 @@ mod lioness;
 mod pack;
 mod same;
 
+pub use batch::seal_batch;
 pub use blake::blake2b;
 pub use books::find_key;
 pub(crate) use books::find_part;

@@ -132,12 +132,16 @@ impl Header {
         if !constant && type_name != "uint8_t" {
             return (tokens.name(), self.kind(&type_name));
         }
-        assert_eq!(type_name, "uint8_t", "{}", tokens.here());
         tokens.expect("*");
         let alone = tokens.take("VESPRULDO_RESTRICT");
         let name = tokens.name();
         assert!(alone != constant, "{name}: RESTRICT is for what is written");
-        let kind = if constant { Kind::Read } else { Kind::Written };
+        let kind = match (type_name.as_str(), constant) {
+            ("uint8_t", true) => Kind::Read,
+            ("uint8_t", false) => Kind::Written,
+            ("uint64_t", true) => Kind::Listed,
+            _ => panic!("{name}: not understood: the type {type_name}"),
+        };
         (name, kind)
     }
 
@@ -172,8 +176,8 @@ impl Header {
 fn told_rightly(name: &str, parameters: &Named, told: BTreeMap<u64, (&'static str, u64)>) {
     let mut buffers = BTreeMap::new();
     for (place, (parameter, kind)) in (1..).zip(parameters) {
-        if let Kind::Read | Kind::Written = kind {
-            buffers.insert(place, (parameter, *kind == Kind::Read));
+        if kind.is_lent() {
+            buffers.insert(place, (parameter, *kind != Kind::Written));
         }
     }
     let all = told.keys().eq(buffers.keys());

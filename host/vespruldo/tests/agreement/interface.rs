@@ -17,6 +17,7 @@ type Entries = BTreeMap<String, String>;
 fn c_type(kind: &Kind) -> String {
     match kind {
         Kind::Read => "const uint8_t *".to_string(),
+        Kind::Listed => "const uint64_t *".to_string(),
         Kind::Written => "uint8_t *".to_string(),
         Kind::Bool => "bool ".to_string(),
         Kind::U16 => "uint16_t ".to_string(),
@@ -33,9 +34,10 @@ fn function(name: &str, Function { parameters, result }: &Function) -> String {
     let mut lines: Vec<String> = parameters
         .iter()
         .map(|(parameter, kind)| {
-            let length = match kind {
-                Kind::Read | Kind::Written => format!(", size_t {parameter}_len"),
-                _ => String::new(),
+            let length = if kind.is_lent() {
+                format!(", size_t {parameter}_len")
+            } else {
+                String::new()
             };
             format!("    {}{parameter}{length}", c_type(kind))
         })

@@ -5,7 +5,9 @@ use std::fs;
 use std::mem::{align_of, offset_of, size_of};
 use std::path::{Path, PathBuf};
 
-use vespruldo::archive::{Drawer, Drawn, Found, Loaded, PackCard, PackJudged, Stored, Streamed};
+use vespruldo::archive::{
+    Batch, Drawer, Drawn, Found, Loaded, PackCard, PackJudged, Stored, Streamed,
+};
 use vespruldo::Refusal;
 
 use crate::c::{c_name, Header};
@@ -103,6 +105,7 @@ pub fn layouts_in_rust() -> Layouts {
     all.extend(layouts!("vespruldo_drawn_iv", Drawn<48>, number bytes next));
     all.extend(layouts!("vespruldo_stored", Stored, bytes));
     all.extend(layouts!("vespruldo_loaded", Loaded, number drawer));
+    all.extend(layouts!("vespruldo_batch", Batch, number next));
     all.extend(layouts!("vespruldo_found", Found, number book offset));
     let pack_card = layouts!("vespruldo_pack_card", PackCard, number kind start length bad next);
     all.extend(pack_card);

@@ -7,6 +7,8 @@ use std::collections::BTreeMap;
 pub enum Kind {
     /// A buffer that is only read, or a pointer to one.
     Read,
+    /// A list of 64-bit numbers that is only read, or a pointer to one.
+    Listed,
     /// A buffer that may be written, or a pointer to one.
     Written,
     Bool,
@@ -32,6 +34,13 @@ pub type Functions = BTreeMap<String, Function>;
 
 pub type Structs = BTreeMap<String, Named>;
 
+impl Kind {
+    /// Whether it is lent: in C a pointer, and then how much there is.
+    pub fn is_lent(&self) -> bool {
+        matches!(self, Kind::Read | Kind::Listed | Kind::Written)
+    }
+}
+
 /// Puts the buffers of C or Rust together. Each is a pointer and then a length
 /// named after it; no length stands alone. Sizes with other names are numbers.
 pub fn with_buffers(parameters: Named) -> Named {
@@ -39,7 +48,7 @@ pub fn with_buffers(parameters: Named) -> Named {
     let mut rest = parameters.into_iter();
     while let Some((name, kind)) = rest.next() {
         match kind {
-            Kind::Read | Kind::Written => {
+            _ if kind.is_lent() => {
                 let length = Some((format!("{name}_len"), Kind::Size));
                 assert_eq!(rest.next(), length, "what follows the pointer {name}");
             }

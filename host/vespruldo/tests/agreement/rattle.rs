@@ -40,9 +40,14 @@ fn parameters(mut tokens: Tokens) -> Named {
 
 fn kind(tokens: &mut Tokens) -> Kind {
     if tokens.take("&") {
-        let written = tokens.take("mut");
-        tokens.expect("[ u8 ]");
-        return if written { Kind::Written } else { Kind::Read };
+        if tokens.take("mut") {
+            tokens.expect("[ u8 ]");
+            return Kind::Written;
+        }
+        tokens.expect("[");
+        let listed = tokens.take("u64");
+        tokens.expect(if listed { "]" } else { "u8 ]" });
+        return if listed { Kind::Listed } else { Kind::Read };
     }
     match tokens.name().as_str() {
         "bool" => Kind::Bool,
@@ -50,8 +55,8 @@ fn kind(tokens: &mut Tokens) -> Kind {
         "u32" => Kind::U32,
         "u64" => Kind::U64,
         "usize" => Kind::Size,
-        name @ ("Drawer" | "Drawn" | "DrawnIv" | "Stored" | "Loaded" | "Found" | "PackCard"
-        | "PackJudged" | "Streamed") => Kind::Struct(name.to_string()),
+        name @ ("Drawer" | "Drawn" | "DrawnIv" | "Stored" | "Loaded" | "Batch" | "Found"
+        | "PackCard" | "PackJudged" | "Streamed") => Kind::Struct(name.to_string()),
         other => panic!("not understood: the type {other}"),
     }
 }

@@ -95,9 +95,15 @@ fn one_named(tokens: &mut Tokens) -> (String, Kind) {
 
 fn kind(tokens: &mut Tokens) -> Kind {
     if tokens.take("*") {
-        let constant = tokens.take("const");
-        tokens.expect(if constant { "u8" } else { "mut u8" });
-        return if constant { Kind::Read } else { Kind::Written };
+        if !tokens.take("const") {
+            tokens.expect("mut u8");
+            return Kind::Written;
+        }
+        if tokens.take("u64") {
+            return Kind::Listed;
+        }
+        tokens.expect("u8");
+        return Kind::Read;
     }
     if tokens.peek() == "[" {
         let mut array = tokens.group();
@@ -117,7 +123,7 @@ fn kind(tokens: &mut Tokens) -> Kind {
             let drawn = DRAWN.iter().find(|drawn| drawn.0 == len);
             Kind::Struct(drawn.expect("a length of Drawn").1.to_string())
         }
-        name @ ("Drawer" | "Stored" | "Loaded" | "Found" | "PackCard" | "PackJudged"
+        name @ ("Drawer" | "Stored" | "Loaded" | "Batch" | "Found" | "PackCard" | "PackJudged"
         | "Streamed") => Kind::Struct(name.to_string()),
         other => panic!("not understood: the type {other}"),
     }

@@ -12,8 +12,8 @@ use core::panic::PanicInfo;
 
 use vespruldo::{
     blake2b, card_open, card_seal, find_key, gift_decipher, gift_encipher, lioness_decipher,
-    lioness_encipher, open_in_place, same, seal_in_place, Data, Drawer, KeyStream, Pack, PackCard,
-    Refusal, StreamKey, WideKey,
+    lioness_encipher, open_in_place, same, seal_batch_into, seal_in_place, Data, Drawer, Key,
+    KeyStream, Pack, PackCard, Refusal, StreamKey, Tag, WideKey,
 };
 
 #[link(name = "c")]
@@ -59,6 +59,26 @@ fn cards(drawer: &mut Drawer) -> Result<(), Refusal> {
     gift_encipher(key, &mut block);
     gift_decipher(key, &mut block);
     assert_eq!(block, [1; 16]);
+    Ok(())
+}
+
+/// A batch of two texts, of which each is opened by itself.
+fn batches(drawer: &mut Drawer) -> Result<(), Refusal> {
+    let key = Key::from([1; 16]);
+    let (mut room, mut tags) = ([0; 40], [[0; 16]; 2]);
+    let lengths = [30, 10];
+    let count = drawer.count();
+    let nonces = seal_batch_into(&key, drawer, LABEL, &SONG, &lengths, &mut room, &mut tags)?;
+    assert_eq!(drawer.count(), count + 2);
+    let (first, second) = room.split_at_mut(30);
+    for ((nonce, tag), part) in nonces.zip(tags).zip([first, second]) {
+        open_in_place(&key, &nonce, LABEL, part, &Tag::from(tag))?;
+    }
+    assert_eq!(room, SONG);
+
+    let refused = seal_batch_into(&key, drawer, LABEL, &SONG, &[40], &mut room, &mut tags);
+    assert_eq!(refused.err(), Some(Refusal::TagLength));
+    assert_eq!(drawer.count(), count + 2);
     Ok(())
 }
 
@@ -112,7 +132,7 @@ mod heap {
     use core::alloc::{GlobalAlloc, Layout};
     use core::ffi::c_void;
 
-    use vespruldo::{open, seal, Data, Drawer, Key, Refusal, Sealed};
+    use vespruldo::{open, seal, seal_batch, Data, Drawer, Key, Refusal, Sealed};
 
     use super::{LABEL, SONG};
 
@@ -146,6 +166,11 @@ mod heap {
         let card = Sealed::from_bytes(&stored)?;
         assert_eq!(open(&key, LABEL, &card)?, SONG);
         assert_eq!(open(&key, Data(b""), &card), Err(Refusal::WrongTag));
+
+        let cards = seal_batch(&key, drawer, LABEL, &["cat", "ox"])?;
+        assert_eq!(open(&key, LABEL, &cards[1])?, b"ox");
+        let refused = seal_batch(&key, drawer, LABEL, &["cat"; 13]);
+        assert_eq!(refused.err(), Some(Refusal::BatchForm));
         Ok(())
     }
 }
@@ -154,6 +179,7 @@ fn all() -> Result<(), Refusal> {
     let stored = Drawer::start(42, 0).to_bytes();
     let mut drawer = Drawer::from_bytes(&stored)?;
     cards(&mut drawer)?;
+    batches(&mut drawer)?;
     others(&mut drawer)?;
     packs()?;
     with_a_heap(&mut drawer)

@@ -11,6 +11,7 @@ pub mod pairs;
 use std::env;
 use std::fmt::Debug;
 
+use second::batch::Batch;
 use second::chacha::Streamed;
 use second::random::Random;
 use vespruldo::Refusal;
@@ -110,6 +111,12 @@ impl Answer for u32 {
 }
 
 impl Answer for Streamed {
+    fn number(self) -> u32 {
+        self.number
+    }
+}
+
+impl Answer for Batch {
     fn number(self) -> u32 {
         self.number
     }

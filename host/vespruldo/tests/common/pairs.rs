@@ -1,8 +1,12 @@
 //! The archive's functions that answer a number, each beside the same function
 //! of the second implementation.
 
+use std::rc::Rc;
+
+use second::batch::Batch;
 use second::chacha::Streamed;
-use second::{blake, card, chacha, gift, hyena, lioness};
+use second::drawer::Drawer;
+use second::{batch, blake, card, chacha, drawer, gift, hyena, lioness};
 use vespruldo::{archive, slices};
 
 use super::{
@@ -176,6 +180,111 @@ pub fn card_open() -> Pair<3, 1> {
     .zeroing(|[_, _, card], _| card - CARD_EXTRA)
 }
 
+/// The answer for these lengths of buffers, with this list of lengths and this
+/// drawer. Nothing is counted or added in 64 bits.
+fn judged_batch(
+    [key, data, texts]: [usize; 3],
+    (lengths, drawer): (&[u64], Drawer),
+    [room, tags]: [usize; 2],
+) -> Batch {
+    let listed = lengths.len() as u128;
+    let sum: u128 = lengths.iter().map(|&length| u128::from(length)).sum();
+    let wrong = [
+        (1, key != 16),
+        (3, data > LONGEST_DATA),
+        (
+            4,
+            lengths.iter().any(|&length| length > LONGEST_TEXT as u64),
+        ),
+        (5, tags as u128 != 16 * listed),
+        (6, room < texts),
+        (9, u128::from(u64::MAX - drawer.count) < listed),
+        (18, !(1..=12).contains(&listed) || sum != texts as u128),
+    ];
+    let number = first_wrong(wrong);
+    let drawn = if number == 0 { listed as u64 } else { 0 };
+    let next = drawer::start(drawer.reader, drawer.count + drawn);
+    Batch { number, next }
+}
+
+/// The archive's own answer, with the drawer that comes with a refusal.
+pub fn batched(
+    [key, data, texts]: [&[u8]; 3],
+    (lengths, drawer): (&[u64], Drawer),
+    [room, tags]: [&mut [u8]; 2],
+) -> Batch {
+    let Drawer { reader, count } = drawer;
+    // SAFETY: each pointer comes with its slice's own length, and room and tags,
+    // lent mutably, lie apart from each other and from what is read.
+    let archive::Batch { number, next } = unsafe {
+        archive::vespruldo_seal_batch(
+            key.as_ptr(),
+            key.len(),
+            data.as_ptr(),
+            data.len(),
+            texts.as_ptr(),
+            texts.len(),
+            lengths.as_ptr(),
+            lengths.len(),
+            archive::Drawer { reader, count },
+            room.as_mut_ptr(),
+            room.len(),
+            tags.as_mut_ptr(),
+            tags.len(),
+        )
+    };
+    let next = drawer::start(next.reader, next.count);
+    Batch { number, next }
+}
+
+/// What the safe function answers, which moves a drawer on and hands back nonces,
+/// with room and tags of its own of these lengths.
+fn batched_safely(
+    [key, data, texts]: [&[u8]; 3],
+    (lengths, drawer): (&[u64], Drawer),
+    lens: [usize; 2],
+) -> Batch {
+    let [mut room, mut tags] = lens.map(|len| vec![0; len]);
+    let mut moved = vespruldo::Drawer::start(drawer.reader, drawer.count);
+    let sealed = slices::seal_batch(key, data, texts, lengths, &mut moved, &mut room, &mut tags);
+    if let Ok(nonces) = sealed.clone() {
+        let mut next = drawer;
+        assert_eq!(nonces.len(), lengths.len());
+        for nonce in nonces {
+            let drawn = drawer::draw(next);
+            assert_eq!((drawn.number, &drawn.bytes), (0, nonce.as_bytes()));
+            next = drawn.next;
+        }
+    }
+    Batch {
+        number: number(sealed),
+        next: drawer::start(moved.reader(), moved.count()),
+    }
+}
+
+/// A batch with this list of lengths and this drawer.
+pub fn seal_batch(lengths: &[u64], drawer: Drawer) -> Pair<3, 2, Batch> {
+    let listed: Rc<[u64]> = lengths.into();
+    let (seconds, expected) = (listed.clone(), listed.clone());
+    // Whoever takes a length too many takes one that is allowed.
+    let lent = [&[1], lengths, &[1]].concat();
+    Pair::new(
+        format!("seal_batch of {lengths:?} by {drawer:?}"),
+        move |read, written| {
+            let list = &lent[1..=listed.len()];
+            let lens = written.each_ref().map(|buffer| buffer.len());
+            let answer = batched(read, (list, drawer), written);
+            assert_eq!(list, &*listed, "the lengths are only read");
+            assert_eq!(batched_safely(read, (list, drawer), lens), answer);
+            answer
+        },
+        move |[key, data, texts], [room, tags]| {
+            batch::seal(key, data, texts, &seconds, drawer, room, tags)
+        },
+        move |read_lens, lens| judged_batch(read_lens, (&expected, drawer), lens),
+    )
+}
+
 fn judged_gift([key_len]: [usize; 1], [block_len]: [usize; 1]) -> u32 {
     if key_len != 16 {
         1
@@ -247,14 +356,15 @@ pub fn streamed(key: &[u8], nonce: &[u8], start: u64, text: &mut [u8]) -> Stream
 pub fn chacha20(start: u64) -> Pair<2, 1, Streamed> {
     Pair::new(
         format!("chacha20, start {start:#x}"),
-        move |[key, nonce], [text]| match slices::chacha20(key, nonce, start, text) {
-            Ok(next) => Streamed { number: 0, next },
-            // A refusal changed nothing, and is given again.
-            Err(refusal) => {
-                let again = streamed(key, nonce, start, text);
-                assert_eq!(again.number, refusal.number());
-                again
-            }
+        move |[key, nonce], [text]| {
+            let len = text.len();
+            let answer = streamed(key, nonce, start, text);
+            // The safe one on a text of its own, or what a refusal had added to this
+            // one would be taken off again.
+            let safe = slices::chacha20(key, nonce, start, &mut vec![0; len]);
+            assert_eq!(number(safe), answer.number);
+            assert!(safe.is_err() || safe == Ok(answer.next));
+            answer
         },
         move |[key, nonce], [text]| chacha::stream(key, nonce, start, text),
         move |read_lens, [text_len]| judged_chacha20(read_lens, start, text_len),
