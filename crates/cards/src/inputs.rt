@@ -3,7 +3,7 @@ use crate::options::{Opt, Options};
 use crate::refusal::Refusal;
 use crate::{names, options, refusal};
 use decimal::Decimal;
-use hex::Hex;
+use hexadecimal::Hex;
 use libc::{STDERR_FILENO, STDIN_FILENO};
 use words::first;
 
@@ -138,7 +138,7 @@ fn gave(error: usize, not_hex: bool, len: usize) -> Taken {
 // Reads until the first byte that is not hex, or until the room is full. Blanks fill no room, so the characters are
 // counted too.
 fn hex_from(fd: i32, room: &mut [u8]) -> Taken {
-    let mut h = hex::begin();
+    let mut h = hexadecimal::begin();
     let mut chunk = io::large_buffer();
     let mut left: usize = 16777217;
     while left > 0 {
@@ -165,7 +165,7 @@ fn one_by_one(h: Hex, s: &[u8], room: &mut [u8]) -> Hex {
         if !g.good || g.len == room.len() {
             return g;
         }
-        g = hex::take_in(g, &s[i..i + 1], room);
+        g = hexadecimal::take_in(g, &s[i..i + 1], room);
         i += 1;
     }
     g

@@ -123,7 +123,7 @@ fn against_class(b: Binding, good: bool, class: u64) -> usize {
 // Puts an entry into the book; whether its key is one.
 fn bound_in(count: usize, class: u64, digits: &[u8], room: &mut [u8]) -> bool {
     let mut key = [0u8; 17];
-    let h = hex::take_in(hex::begin(), digits, &mut key);
+    let h = hexadecimal::take_in(hexadecimal::begin(), digits, &mut key);
     let at = put(room, place_of(count), &two_bytes((class % 65536) as usize));
     put(room, at, first(&key, 16));
     h.good && !h.half && h.len == 16

@@ -297,7 +297,7 @@ fn chunk_end(at: usize, len: usize) -> usize
 
 fn chunk_sent(fd: i32, bytes: &[u8]) -> bool {
     let mut digits = io::buffer();
-    hex::spell(bytes, &mut digits);
+    hexadecimal::spell(bytes, &mut digits);
     io::write_all(fd, words::first(&digits, twice(bytes.len())))
 }
 

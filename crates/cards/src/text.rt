@@ -43,7 +43,7 @@ pub(crate) fn number(before: &[u8], n: u64, after: &[u8]) -> Text {
 // Up to 16 bytes in hex behind a word, and the end of the line.
 pub(crate) fn hex(before: &[u8], s: &[u8]) -> Text {
     let mut digits = [0u8; 32];
-    hex::spell(first(s, 16), &mut digits);
+    hexadecimal::spell(first(s, 16), &mut digits);
     let twice = if s.len() < 16 { 2 * s.len() } else { 32 };
     and(and(of(before), first(&digits, twice)), b"\n")
 }

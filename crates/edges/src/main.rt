@@ -42,7 +42,7 @@ fn put_number(n: u64) {
 // A space and bytes, at most 208.
 fn put_bytes(s: &[u8]) {
     let mut shown = [0u8; 416];
-    let n = hex::show(s, &mut shown);
+    let n = hexadecimal::show(s, &mut shown);
     io::write_all(STDOUT_FILENO, b" ");
     io::write_all(STDOUT_FILENO, words::first(&shown, n));
 }

@@ -83,8 +83,8 @@ fn behind(s: &[u8]) -> &[u8] {
 // Reads a field, where those before it are good. It is one where its bytes are shown as it stands there.
 fn read(good: bool, s: &[u8], room: &mut [u8]) -> Field {
     let mut shown = [0u8; 2304];
-    let h = hex::take_in(hex::begin(), s, room);
-    let n = hex::show(first(room, h.len), &mut shown);
+    let h = hexadecimal::take_in(hexadecimal::begin(), s, room);
+    let n = hexadecimal::show(first(room, h.len), &mut shown);
     Field {
         good: good && same(s, first(&shown, n)),
         len: h.len,
@@ -226,7 +226,7 @@ fn put(number: u32, s: &[u8]) {
 
 fn put_bytes(s: &[u8]) {
     let mut shown = [0u8; 2304];
-    let n = hex::show(s, &mut shown);
+    let n = hexadecimal::show(s, &mut shown);
     io::write_all(STDOUT_FILENO, first(&shown, n));
 }
 

@@ -1,6 +1,8 @@
 // Numbers of 128 bits, how they are read from bytes and written to them, sums of bytes, and slices that are compared,
 // searched or cut. Nothing is refused and nothing faults: what lies past the end of a slice reads as 0 and is not
 // written.
+#![tactic(auto)]
+
 ghost use Rattle.std.specs.Prelude.{◌≡◌, [], ◌+◌, ◌-◌, ◌≤◌, ◌<◌, min, eqb, length, get_or};
 ghost use Rattle.std.specs.Int.Bits.{bit_xor};
 ghost use Rattle.std.proofs.lemmas.List.Edits.{sets};

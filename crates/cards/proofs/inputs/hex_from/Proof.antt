@@ -7,7 +7,7 @@ use Rattle.cards.proofs.inputs.hex_from.Tie as tie
 use Rattle.cards.proofs.inputs.ended.Reads as ended-reads
 use Rattle.cards.proofs.inputs.gave.Reads as gave-reads
 use Rattle.cards.proofs.inputs.one_by_one.Reads as one-by-one-reads
-use Rattle.hex.proofs.begin.Reads as begin-reads
+use Rattle.hexadecimal.proofs.begin.Reads as begin-reads
 use Rattle.io.proofs.count.Reads as count-reads
 use Rattle.io.proofs.large_buffer.Reads as large-buffer-reads
 use Rattle.libc.proofs.read.Reads as read-reads

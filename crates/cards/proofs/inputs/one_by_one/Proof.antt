@@ -4,7 +4,7 @@ use Prim.Native.Nat.{◌-◌}
 use borrow.Author.Rules.{rules}
 use Rattle.cards.proofs.inputs.one_by_one.Statement.{statement}
 use Rattle.cards.proofs.inputs.one_by_one.Tie as tie
-use Rattle.hex.proofs.take_in.Reads as take-in-reads
+use Rattle.hexadecimal.proofs.take_in.Reads as take-in-reads
 
 abbrev invariant-loop : tie.invariant-loop
 invariant-loop s room₀ g₀ i₀ room g i = length room ≡ length room₀

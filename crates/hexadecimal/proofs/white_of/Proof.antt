@@ -1,0 +1,43 @@
+use lib.Dec.{lit≤}
+use borrow.Author.Tests.{eq-eqb, ne_eqb}
+use Rattle.hexadecimal.proofs.white_of.Statement.{statement}
+use Rattle.hexadecimal.proofs.white_of.Tie as tie
+
+returns : tie.Need-returns
+returns c = (simp (eq-eqb _ _ c.if1.true), lit≤ tt)
+
+returns-2 : tie.Need-returns-2
+returns-2 c = (simp (ne_eqb _ _ c.before.if1.false, eq-eqb _ _ c.if2.true), lit≤ tt)
+
+returns-3 : tie.Need-returns-3
+returns-3 c = (
+  simp (ne_eqb _ _ c.before.before.if1.false, ne_eqb _ _ c.before.if2.false, eq-eqb _ _ c.if3.true),
+  lit≤ tt,
+)
+
+returns-4 : tie.Need-returns-4
+returns-4 c = (
+  simp (
+    ne_eqb _ _ c.before.before.before.if1.false,
+    ne_eqb _ _ c.before.before.if2.false,
+    ne_eqb _ _
+        c.before.if3.false,
+    eq-eqb _ _ c.if4.true,
+  ),
+  lit≤ tt,
+)
+
+returns-5 : tie.Need-returns-5
+returns-5 c = (
+  simp (
+    ne_eqb _ _ c.before.before.before.if1.false,
+    ne_eqb _ _ c.before.before.if2.false,
+    ne_eqb _ _
+        c.before.if3.false,
+    ne_eqb _ _ c.if4.false,
+  ),
+  lit≤ tt,
+)
+
+pub white-of-spec : {M : Type 1} → statement M
+white-of-spec = tie.close (tie.spec returns returns-2 returns-3 returns-4 returns-5)
