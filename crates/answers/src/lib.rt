@@ -1,4 +1,6 @@
 // The refusals of an entry point: a row for each line of document 01's table, or of its own, as they stand there.
+#![tactic(auto)]
+
 ghost use Rattle.std.specs.Prelude.{cond, ◌≡◌};
 
 // The refusal `number` if it applies, and otherwise what follows; the last row is followed by 0.
