@@ -1,4 +1,6 @@
 // GIFT-128, both ways.
+#![tactic(auto)]
+
 ghost use Rattle.std.specs.Prelude.{cond, ◌≡◌, ◌+◌, ◌-◌, ◌*◌, ◌/◌, ◌%◌, ◌<◌, ◌≤◌, ◌^◌};
 ghost use Rattle.std.specs.Int.Bits.{bit_xor};
 ghost use Rattle.words.specs.Block.{value, halves};
@@ -15,7 +17,7 @@ use answers::row;
 use words::Block;
 
 // The round keys with the round constants: worked out once for a key, they serve for many blocks.
-#[derive(Drop)]
+#[derive(Clone, Copy)]
 pub struct RoundKeys {
     pub rounds: [Block; 40],
 }

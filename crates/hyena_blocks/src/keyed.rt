@@ -6,7 +6,7 @@ ghost use Rattle.hyena_blocks.specs.Steps.{keyed, enciphers};
 use gift::RoundKeys;
 use words::Block;
 
-#[derive(Drop)]
+#[derive(Clone, Copy)]
 pub struct Keyed {
     pub keys: RoundKeys,
 }

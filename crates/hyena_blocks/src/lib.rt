@@ -11,21 +11,21 @@ use keyed::Keyed;
 use words::Block;
 
 // State Y, into which a block is fed, and the mask.
-#[derive(Drop)]
+#[derive(Clone, Copy)]
 pub struct StateY {
     pub y: Block,
     pub mask: u64,
 }
 
 // The new state X, and the mask that the block was fed with.
-#[derive(Drop)]
+#[derive(Clone, Copy)]
 pub struct StateX {
     pub x: Block,
     pub mask: u64,
 }
 
 // A block of text, fed: the new state, and what comes out.
-#[derive(Drop)]
+#[derive(Clone, Copy)]
 pub struct Fed {
     pub state: StateX,
     pub out: Block,

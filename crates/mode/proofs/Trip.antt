@@ -2,7 +2,7 @@
 use mathlib.Core.Path.{◌≡◌, refl, sym, ap, ap₂, ◌∙◌}
 use mathlib.Core.Bool.{Bool, true, false, cond, not}
 use mathlib.Core.List.{List, [], ◌++◌, append_assoc}
-use Prim.Native.Nat.{ℕ, zero, suc, ◌+◌, ◌-◌, ◌*◌, ◌≤◌, ◌<◌}
+use Prim.Native.Nat.{ℕ, zero, suc, ◌+◌, ◌*◌, ◌≤◌, ◌<◌}
 use native.Mathlib.Nat.{mul-suc}
 use native.Mathlib.Decide.{ℕ_discrete}
 use native.Mathlib.Omega.{arith}
@@ -83,7 +83,12 @@ module _ (E : ℕ → ℕ) (opening : Bool) where
       → text_block E (not opening) k (record { X = t.X; Δ = t.Δ; out = o }) (output d (E t.X))
       ≡ record { X = (text_block E opening k t d).X; Δ = (text_block E opening k t d).Δ; out = o ++ d }
   unfolding text_block feed output
-  block-trip k t o d = elim opening [ true ↦ rw plus-twice | false ↦ rw plus-twice ]
+  block-trip k t o d =
+      elim opening as (λ (w : Bool). text_block E (not w) k (record { X = t.X; Δ = t.Δ; out = o }) (output d (E t.X))
+      ≡ record { X = (text_block E w k t d).X; Δ = (text_block E w k t d).Δ; out = o ++ d }) [
+        | true ↦ rw plus-twice
+        | false ↦ rw plus-twice
+      ]
 
   module _ (t : StateX) (none : t.out ≡ []) (m : List ℕ) where
     there_at : ℕ → StateX

@@ -1,1 +1,3 @@
+#![tactic(auto)]
+
 // HyENA over any block function: definitions and theorems only, no function.

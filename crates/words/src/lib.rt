@@ -12,7 +12,7 @@ ghost use Rattle.words.specs.Search.{same, finding};
 ghost use Rattle.words.specs.Lent.{First};
 
 // A number of 128 bits.
-#[derive(Drop)]
+#[derive(Clone, Copy)]
 pub struct Block {
     pub lo: u64,
     pub hi: u64,

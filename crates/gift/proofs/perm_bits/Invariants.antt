@@ -1,0 +1,14 @@
+use mathlib.Core.Bool.{cond}
+use Prim.Native.Nat.{◌-◌, ◌*◌, ◌^◌, ◌≤◌}
+use mathlib.Core.Path.{◌≡◌}
+use Rattle.words.specs.Block.{value, halves}
+use Rattle.words.specs.Digits.{xsum}
+use Rattle.gift.specs.Gift.{bit, place}
+use Rattle.gift.proofs.perm_bits.Given as goal
+
+abbrev pub invariant-loop-i : goal.invariant-loop-i
+invariant-loop-i l =
+    (l.i ≤ 128) × (l.acc ≡ halves (xsum (λ k. bit (cond l.back (place k) k) (value l.x) * 2 ^ cond l.back k (place k)) l.i))
+
+abbrev pub decreases-loop-i : goal.decreases-loop-i
+decreases-loop-i l = 128 - l.i
