@@ -1,4 +1,6 @@
 // HyENA block by block, over a block cipher with its key. States go in and come back by value, and nothing is refused.
+#![tactic(auto)]
+
 ghost use Rattle.std.specs.Prelude.{cond, ◌≡◌, ◌<◌, eqb};
 ghost use Rattle.words.specs.Block.{value, halves};
 ghost use Rattle.words.specs.Bytes.{number, pad};
