@@ -1,4 +1,6 @@
 // HyENA: sealing a text with associated data, and opening it again.
+#![tactic(auto)]
+
 ghost use Rattle.std.specs.Prelude.{cond, ◌≡◌, ◌+◌, ◌≤◌, eqb, length, replicate};
 ghost use Rattle.std.proofs.lemmas.List.Edits.{sets};
 ghost use Rattle.words.specs.Block.{value, halves, part, loaded};
