@@ -1,4 +1,6 @@
 // A card as shelves hold it: "a 12-byte nonce, a two-byte little-endian length, the ciphertext and its tag".
+#![tactic(auto)]
+
 ghost use Rattle.std.specs.Prelude.{◌≡◌, ◌+◌, ◌≤◌, length, ltb};
 ghost use Rattle.words.specs.Bytes.{over};
 ghost use Rattle.answers.specs.Answers.{number_of};
