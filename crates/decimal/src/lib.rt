@@ -1,4 +1,6 @@
 // Numbers in decimal.
+#![tactic(auto)]
+
 ghost use Rattle.std.specs.Prelude.{◌≡◌, List, [], ◌∷◌, ℕ};
 ghost use Rattle.decimal.specs.Decimal.{from, none, reading};
 

@@ -1,4 +1,6 @@
 // The drawer of nonces: numbers that never repeat, for sealing and for wide blocks.
+#![tactic(auto)]
+
 ghost use Rattle.std.specs.Prelude.{◌≡◌};
 ghost use Rattle.answers.specs.Answers.{number_of};
 ghost use Rattle.drawer.specs.Drawer.{for_nonce, for_iv, started, nonce, remaining, rows, Drawing};
@@ -7,7 +9,7 @@ use answers::row;
 use words::Block;
 
 #[repr(C)]
-#[derive(Drop)]
+#[derive(Clone, Copy)]
 pub struct Drawer {
     pub reader: u32,
     pub count: u64,

@@ -1,5 +1,7 @@
 // Bytes in hex: two digits for each, the high one first. In what is read they may be of either case, with white space
 // anywhere.
+#![tactic(auto)]
+
 ghost use Rattle.std.specs.Prelude.{◌≡◌, [], ◌+◌, ◌≤◌, ◌<◌, cond, ltb, length, set};
 ghost use Rattle.std.proofs.lemmas.List.Edits.{sets};
 ghost use Rattle.hexadecimal.specs.Hex.{white, meaning, glyph, digits_of, start, taken_byte, TakingIn, Spelling, Showing};

@@ -1,4 +1,6 @@
 // Lists of lengths, of texts that lie end to end. No sum of lengths wraps, whatever the list holds.
+#![tactic(auto)]
+
 ghost use Rattle.std.specs.Prelude.{◌≡◌, eqb};
 ghost use Rattle.lengths.specs.Lengths.{total, any_above};
 
