@@ -5,8 +5,8 @@ use mathlib.Core.Path.{◌≡◌, refl, ap}
 use Prim.Native.Nat.{ℕ, zero}
 use mathlib.Core.List.{List, [], ◌∷◌}
 use seplogic.Ra.Ura.{Ura}
-use seplogic.Ra.TreeShare.PosShare
-use seplogic.Ra.TreeShare.{full_share}
+use base.Fraction as Fraction
+use base.Fraction.{full_share}
 use mir.Syntax.{named, erased, Ty, Body, seq, call, place, copy}
 use mir.Val.{Val, vptr}
 use base.Logic.{SProp, ent, id⊢}
@@ -58,7 +58,7 @@ module _ {M : Type 1} {𝓤 : Ura M} (𝓛 : Logic 𝓤) (mem : Memory → SProp
   to-next ν l γ r = (
     (
       (ν ∷ κ, (κ, tt)),
-      (PosShare.right q, (PosShare.left q, tt)),
+      (Fraction.right q, (Fraction.left q, tt)),
       (meet_⊑_right (ν ∷ []) κ, tt),
       (ref l γ r, tt),
       (vptr l 0 ∷ [], tt),
@@ -67,16 +67,17 @@ module _ {M : Type 1} {𝓤 : Ura M} (𝓛 : Logic 𝓤) (mem : Memory → SProp
   )
 
   goes-next : (ν l : ℕ) (γ : GName) (r : Reader) → ent 𝓤 (⋆ 𝓛 (‵ ((MutRef (named 0) (ν ∷ κ) (R κ)).own_val (ref l γ r)
-      (vptr l 0 ∷ [])) ∷ ‵ (flft (ν ∷ κ) (PosShare.right q)) ∷ ‵ (flft κ (PosShare.left q)) ∷ []))
+      (vptr l 0 ∷ [])) ∷ ‵ (flft (ν ∷ κ) (Fraction.right q)) ∷ ‵ (flft κ (Fraction.left q)) ∷ []))
       ((NextC 𝓛 mem run).pre (to-next ν l γ r))
   goes-next ν l γ r =
       qed 𝓛 (‵ ((MutRef (named 0) (ν ∷ κ) (R κ)).own_val (ref l γ r) (vptr l 0 ∷ [])) ∷ ‵ (flft (ν ∷ κ)
-      (PosShare.right q)) ∷ ‵ (flft κ (PosShare.left q)) ∷ []) ∵
+      (Fraction.right q)) ∷ ‵ (flft κ (Fraction.left q)) ∷ []) ∵
       nothing ! $ move ! (1 ∷ 0 ∷ []) $ fjoin ! $ nothing ! $ move ! (3 ∷ 0 ∷ []) $ join ! $ move ! (2 ∷ 0 ∷ []) $
       join ! $ move ! (0 ∷ 1 ∷ []) $ join ! $ nothing ! $ move ! (1 ∷ 0 ∷ []) $ done !
 
 module _ {M : Type 1} {𝓤 : Ura M} {𝓛 : Logic 𝓤} {K : Type 0} {Γ : List
-    (Item 𝓤)} {C : Calls 𝓤 𝓛.H} {Λ : Loops 𝓤 𝓛.H} {E : Env 𝓤 𝓛.H} {rest : Body} {Q : Kit.Post 𝓤 𝓛.H} {i j lᵢ lⱼ : ℕ} {τᵢ : Ty}
+    (Item 𝓤)} {C : Calls 𝓤 𝓛.H} {Λ : Loops 𝓤 𝓛.H} {E : Env 𝓤 𝓛.H} {rest : Body} {Q : Kit.Post 𝓤 𝓛.H}
+    {i j lᵢ lⱼ : ℕ} {τᵢ : Ty}
   where
     open 𝓛 use {H}
 
@@ -96,14 +97,14 @@ module _ {M : Type 1} {𝓤 : Ura M} {𝓛 : Logic 𝓤} {K : Type 0} {Γ : List
         -- [what `next` asks; the lender's part; the way back; the reference's cell; the room]
         calls_at t fm (NextC 𝓛 mem run) known (to-next 𝓛 mem run κ q ν l γ r) (and_then t (load t (at t eᵢ
         (stop t)) (look t 3 refl)) (no_more t)) (λ u.
-        use1 𝓛 (later (some (λ (c : Card). ((‵ (flft (ν ∷ κ) (PosShare.right q)) ⊛ ‵ (flft κ
-        (PosShare.left q)) ⊛ ‵ ftrue) ⊛ ‵ ((S.the_row).own_val c (u ∷ []))) ⊛ raw (ensured 𝓛 next.ended
+        use1 𝓛 (later (some (λ (c : Card). ((‵ (flft (ν ∷ κ) (Fraction.right q)) ⊛ ‵ (flft κ
+        (Fraction.left q)) ⊛ ‵ ftrue) ⊛ ‵ ((S.the_row).own_val c (u ∷ []))) ⊛ raw (ensured 𝓛 next.ended
         (next.clauses 𝓛 mem run) (ν ∷ κ, (κ, tt)) (ref 𝓛 mem run κ q l γ r, tt) tt c)))) (id⊢ 𝓤 _) $
         await t tt $ pick t (λ c.
         split t $ move t (1 ∷ []) $ use1 𝓛 (some (λ (zs : Reader × Unit {0}). ‵ (lasts next.ended (ν ∷ κ, (κ, tt))
         (ref 𝓛 mem run κ q l γ r, tt) zs) ⊛ raw (fact 𝓤 (Moves c r zs.0)))) (id⊢ 𝓤 _) $ pick t (λ zs.
-        split t $ move t (1 ∷ []) $ heard t (Moves c r zs.0) (λ e. fsplit t $ move t (2 ∷ []) $ split t $
-        move t (1 ∷ []) $
+        split t $ move t (1 ∷ []) $ heard t (Moves c r zs.0) (λ e. fsplit t $ fsplit t $ move t (1 ∷ []) $
+        drop t $ move t (2 ∷ []) $ split t $ move t (1 ∷ []) $
         -- [the result; the tokens; the reader's last value; true; the lender's part; the way back; the reference's
         -- cell; the room]
         peeks t S.the_row (Is S.the_row) (shows 𝓛 S.the_row) c (u ∷ []) (λ is. land t (at t eⱼ (stop t))

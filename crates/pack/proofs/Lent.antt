@@ -3,8 +3,8 @@
 use Prim.Native.Nat.{ℕ}
 use mathlib.Core.List.{List, [], ◌∷◌}
 use seplogic.Ra.Ura.{Ura}
-use seplogic.Ra.TreeShare.PosShare
-use seplogic.Ra.TreeShare.{full_share}
+use base.Fraction as Fraction
+use base.Fraction.{full_share}
 use mir.Syntax.{named, erased}
 use mir.Val.{Val, vptr}
 use base.Logic.{wand, id⊢}
@@ -45,8 +45,8 @@ module _ {M : Type 1} {𝓤 : Ura M} {𝓛 : Logic 𝓤} {K : Type 0} {Γ : List
             (l, 0);
         ghost_name = γ;
         now = h;
-      }) (vptr l 0 ∷ [])) ∷ ‵ (flft (ν ∷ κ) (PosShare.right q)) ∷ ‵ (flft κ
-      (PosShare.left q)) ∷ ‵ (flent (ν ∷ κ) (Body (mem (R κ)) l 0 γ)) ∷ Carved 𝓛 ν (PosShare.right q) ∷ Γ) G)
+      }) (vptr l 0 ∷ [])) ∷ ‵ (flft (ν ∷ κ) (Fraction.right q)) ∷ ‵ (flft κ
+      (Fraction.left q)) ∷ ‵ (flent (ν ∷ κ) (Body (mem (R κ)) l 0 γ)) ∷ Carved 𝓛 ν (Fraction.right q) ∷ Γ) G)
       → Seq K 𝓛 (‵ (fat full_share (T'.mir erased) l 0 (T'.lowered h)) ∷ ‵ ((R κ).own_val h (T'.lowered h ∷ [])) ∷ ‵
       (flft κ q) ∷ Γ) G
   unfolding part_of
@@ -55,13 +55,13 @@ module _ {M : Type 1} {𝓤 : Ura M} {𝓛 : Logic 𝓤} {K : Type 0} {Γ : List
       (T'.lowered h)) $
       fjoin t $ fpack t (List Val) (λ us. fsep (cell_at full_share (R κ).mir us l 0) ((R κ).own_val h us)) (T'.lowered h
       ∷ []) $
-      lft_new t z (λ ν. use1 𝓛 (‵ (flft (ν ∷ []) (PosShare.right q)) ⊛ Carved 𝓛 ν (PosShare.right q))
-      (𝓛.lfts.lft_carve ν (PosShare.right q)) $ split t $
+      lft_new t z (λ ν. use1 𝓛 (‵ (flft (ν ∷ []) (Fraction.right q)) ⊛ Carved 𝓛 ν (Fraction.right q))
+      (𝓛.lfts.lft_carve ν (Fraction.right q)) $ split t $
       -- [ν's part; the way back; the reader; 'a's token]
-      move t (3 ∷ []) $ use1 𝓛 (‵ (flft κ (PosShare.left q)) ⊛ ‵ (flft κ (PosShare.right q)))
+      move t (3 ∷ []) $ use1 𝓛 (‵ (flft κ (Fraction.left q)) ⊛ ‵ (flft κ (Fraction.right q)))
       (𝓛.lfts.lft_split κ q) $ split t $
-      move t (2 ∷ 1 ∷ []) $ use2 𝓛 (‵ (flft (ν ∷ κ) (PosShare.right q))) (𝓛.lfts.lft_meet (ν ∷ []) κ
-      (PosShare.right q)) $
+      move t (2 ∷ 1 ∷ []) $ use2 𝓛 (‵ (flft (ν ∷ κ) (Fraction.right q))) (𝓛.lfts.lft_meet (ν ∷ []) κ
+      (Fraction.right q)) $
       -- [the loan's token; the rest of 'a's; the way back; the reader]
       move t (3 ∷ []) $
       use1 𝓛 (later (some (λ (γ : GName). ‵ ((MutRef (named 0) (ν ∷ κ) (R κ)).own_val (record {
@@ -76,12 +76,12 @@ module _ {M : Type 1} {𝓤 : Ura M} {𝓛 : Logic 𝓤} {K : Type 0} {Γ : List
   pub back : K → Soaks G → (κ : Lft) (q : Share) {ν : ℕ} {γ : GName} {l : ℕ} (h : Reader)
       → (Is (R κ) h (T'.lowered h ∷ []) → Seq K 𝓛 (‵ (fat full_share (T'.mir erased) l 0 (T'.lowered h)) ∷ ‵
       ((R κ).own_val h (T'.lowered h ∷ [])) ∷ ‵ (flft κ q) ∷ Γ) G)
-      → Seq K 𝓛 (‵ (flft (ν ∷ κ) (PosShare.right q)) ∷ ‵ (flft κ (PosShare.left q)) ∷ ‵ (flent (ν ∷ κ) (Body (mem
-      (R κ)) l 0 γ)) ∷ Carved 𝓛 ν (PosShare.right q) ∷ ‵ (fres γ ((R κ).coded.code h)) ∷ Γ) G
+      → Seq K 𝓛 (‵ (flft (ν ∷ κ) (Fraction.right q)) ∷ ‵ (flft κ (Fraction.left q)) ∷ ‵ (flent (ν ∷ κ) (Body (mem
+      (R κ)) l 0 γ)) ∷ Carved 𝓛 ν (Fraction.right q) ∷ ‵ (fres γ ((R κ).coded.code h)) ∷ Γ) G
   unfolding part_of
   back t z κ q {ν} {γ} {l} h k =
-      use1 𝓛 (‵ (flft (ν ∷ []) (PosShare.right q)) ⊛ ‵ (flft κ (PosShare.right q))) (𝓛.lfts.lft_unmeet (ν ∷ []) κ
-      (PosShare.right q)) $ split t $
+      use1 𝓛 (‵ (flft (ν ∷ []) (Fraction.right q)) ⊛ ‵ (flft κ (Fraction.right q))) (𝓛.lfts.lft_unmeet (ν ∷ []) κ
+      (Fraction.right q)) $ split t $
       -- [ν's part; half of 'a's; the other half; the lender's part; the way back; the last value]
       move t (2 ∷ 1 ∷ []) $ use2 𝓛 (‵ (flft κ q)) (𝓛.lfts.lft_join κ q) $
       -- ['a's; ν's part; the lender's part; the way back; the last value]

@@ -1,4 +1,6 @@
 // Lesson packs: what a reader answers at each place of any bytes, as K1 of document 02 fixes it.
+#![tactic(auto)]
+
 ghost use Rattle.std.specs.Prelude.{◌≡◌};
 ghost use Rattle.pack.specs.Pack.{card_at, ends};
 ghost use Rattle.pack.specs.Stretch.{settled};
@@ -11,7 +13,7 @@ mod items; // items.rt: the items of a pack, from the front
 
 // What a reader answers: three kinds of card, with the start and the length of their bytes, and what ends a walk, done
 // or a refusal; a bad shuffle has the place of the entry at which it is bad.
-#[derive(Drop)]
+#[derive(Clone, Copy)]
 pub enum Card {
     Word { start: usize, length: usize },
     Song { start: usize, length: usize },
@@ -22,14 +24,14 @@ pub enum Card {
 }
 
 // An answer, and the reader's place after it.
-#[derive(Drop)]
+#[derive(Clone, Copy)]
 pub struct Read {
     pub card: Card,
     pub next: usize,
 }
 
 // A reader: a pack and its place in it, the number of cards given.
-#[derive(Drop)]
+#[derive(Clone, Copy)]
 pub struct Reader<'a> {
     pub pack: &'a [u8],
     pub place: usize,
@@ -38,7 +40,7 @@ pub struct Reader<'a> {
 // An answer as C has it: 0 or the refusal; 1 for a word, 2 for a song, 3 for a shuffle, 0 for no card; the start and
 // the length of its bytes; the place of the entry at which a shuffle is bad; the reader's place after it.
 #[repr(C)]
-#[derive(Drop)]
+#[derive(Clone, Copy)]
 pub struct PackCard {
     pub number: u32,
     pub kind: u32,
@@ -51,7 +53,7 @@ pub struct PackCard {
 // What a pack is as a whole: 0 or the refusal; how many cards are given before that; the place of the entry at which
 // the shuffle is bad.
 #[repr(C)]
-#[derive(Drop)]
+#[derive(Clone, Copy)]
 pub struct PackJudged {
     pub number: u32,
     pub cards: usize,

@@ -4,8 +4,8 @@ use mathlib.Core.Path.{◌≡◌, sym, subst}
 use Prim.Native.Nat.{ℕ, zero}
 use mathlib.Core.List.{List, ◌∷◌}
 use seplogic.Ra.Ura.{Ura}
-use seplogic.Ra.TreeShare.{full_share}
-use mir.Syntax.{Fn, Name, Ty, place, Step as PStep}
+use base.Fraction.{full_share}
+use mir.Syntax.{Fn, Callee, Ty, place, Step as PStep}
 use mir.Val.{Val}
 use base.Logic.{ent, sep, via, assoc', mono_l, mono_r}
 use base.Fml.{fat, fdies}
@@ -28,9 +28,9 @@ use denote.Triple.Table.{entered}
 use denote.Triple.Walked.{Stays, walk_of, AllGo, walked, walk_Meets}
 
 module _ {M : Type 1} {𝓤 : Ura M} {𝓛 : Logic 𝓤} {K : Type 0} {Γ : List (Item 𝓤)} where
-  -- a place of a local whose spot is given
   open 𝓛 use {H}
 
+  -- a place of a local whose spot is given
   pub at : {E : Env 𝓤 H} {i : ℕ} {st : List PStep} {sp₀ sp : Spot 𝓤 H} → K → spot_of 𝓤 H E i ≡ sp₀
       → Way K 𝓛 Γ E sp₀ st sp → Finds K 𝓛 Γ E (place i st) sp
   at {E} {i} {st} {sp₀} {sp} t e w = from t (subst (λ (s : Spot 𝓤 H). Way K 𝓛 Γ E s st sp) (sym e) w)
@@ -80,7 +80,7 @@ module _ {M : Type 1} {𝓤 : Ura M} (𝓛 : Logic 𝓤) (𝓜 : Model 𝓤 𝓛
         g,
       )))
 
-  pub by-walk : (γ : Names) (k : Name) (fn : Fn) → Closed 𝓤 H (tables 𝓤 H 𝓜 𝓡 γ).C (tables 𝓤 H 𝓜 𝓡 γ).Λ k fn
+  pub by-walk : (γ : Names) (k : Callee) (fn : Fn) → Closed 𝓤 H (tables 𝓤 H 𝓜 𝓡 γ).C (tables 𝓤 H 𝓜 𝓡 γ).Λ k fn
       → AllGo 𝓛 T.signature.lifetimes T.signature.params T.kept hs
       → (sp : (κs : Lfts T.signature.lifetimes) → Spells (types_at T.signature.params κs)) → ((κs : Lfts
       T.signature.lifetimes) → Tellss (types_at T.signature.params κs) (Ises (types_at
