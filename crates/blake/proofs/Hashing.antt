@@ -22,7 +22,8 @@ use Rattle.blake.specs.Entry.{rows, digesting}
 -- what stands behind the chain value, for a count of one word
 abbrev behind : ℕ → ℕ → List ℕ
 behind t i =
-    get_or iv 0 0 ∷ get_or iv 1 0 ∷ get_or iv 2 0 ∷ get_or iv 3 0 ∷ bit_xor (get_or iv 4 0) t ∷ get_or iv 5 0 ∷ i ∷ get_or iv 7 0 ∷ []
+    get_or iv 0 0 ∷ get_or iv 1 0 ∷ get_or iv 2 0 ∷ get_or iv 3 0 ∷ bit_xor (get_or iv 4 0) t
+    ∷ get_or iv 5 0 ∷ i ∷ get_or iv 7 0 ∷ []
 
 vectored : (g : ℕ → ℕ) (t i : ℕ) (last : Bool) → t < 2 ^ 64
     → i ≡ cond last (bit_xor (get_or iv 6 0) 0xFFFFFFFFFFFFFFFF) (get_or iv 6 0)
@@ -32,8 +33,8 @@ vectored g t i last h e = rw (e, mod-eq_of_lt h, div-eq_of_lt h)
 
 pub vector-is : (h : List ℕ) → length h ≡ 8 → (t i : ℕ) (last : Bool) → t < 2 ^ 64
     → i ≡ cond last (bit_xor (get_or iv 6 0) 0xFFFFFFFFFFFFFFFF) (get_or iv 6 0)
-    → get_or h 0 0 ∷ get_or h 1 0 ∷ get_or h 2 0 ∷ get_or h 3 0 ∷ get_or h 4 0 ∷ get_or h 5 0 ∷ get_or h 6 0 ∷ get_or h 7 0
-    ∷ behind t i ≡ vector h t last
+    → get_or h 0 0 ∷ get_or h 1 0 ∷ get_or h 2 0 ∷ get_or h 3 0 ∷ get_or h 4 0 ∷ get_or h 5 0
+    ∷ get_or h 6 0 ∷ get_or h 7 0 ∷ behind t i ≡ vector h t last
 vector-is h e t i last k f =
     vectored (λ j. get_or h j 0) t i last k f ∙ ap (λ (l : List ℕ). vector l t last) (sym (listed h 8 e))
 

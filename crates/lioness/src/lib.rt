@@ -1,4 +1,6 @@
 // LIONESS on a wide block, both ways, of ChaCha20 and BLAKE2b.
+#![tactic(auto)]
+
 ghost use Rattle.std.specs.Prelude.{◌≡◌, ◌++◌, ◌≤◌, length};
 ghost use Rattle.words.specs.Bytes.{plus};
 ghost use Rattle.answers.specs.Answers.{number_of, answered};
