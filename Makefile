@@ -14,7 +14,8 @@ version := $(shell sed -n 's/^version = "\(.*\)"$$/\1/p' host/Cargo.toml)
 archive = target/staticlib/libvespruldo.a
 tool = target/office/cards
 completion = target/office/completion
-sources = crates.txt $(shell find crates -type f)
+# All but what rt keeps beside a crate, in its folder out/.
+sources = crates.txt $(shell find crates -regex 'crates/[^/]*/out' -prune -o -type f -print)
 # What header and README name, in the folders in which they name it.
 pages = README.md LICENSE $(wildcard docs/*.md) docs/cards.1 $(wildcard examples/*.c)
 
@@ -24,7 +25,9 @@ archive: $(archive)
 
 # tools/prove runs rt, and says on standard error which crate is being proved, and of how many.
 $(archive): $(sources)
-	@tools/prove staticlib vespruldo
+	@tools/prove vespruldo
+	@mkdir -p $(@D)
+	@cp crates/vespruldo/out/libvespruldo.a $@
 
 tool: $(tool) $(completion)
 

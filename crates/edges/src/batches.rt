@@ -3,8 +3,7 @@
 ghost use Rattle.std.specs.Prelude.{◌≤◌};
 
 use super::draws::put_drawer;
-use super::{fill, first_mut, put_bytes, put_number};
-use libc::STDOUT_FILENO;
+use super::{STDOUT_FILENO, fill, first_mut, put_bytes, put_number};
 use words::first;
 
 pub(crate) fn batches() {

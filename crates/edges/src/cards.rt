@@ -3,8 +3,7 @@
 // sealing, number and room of opening. Rooms of more than 32 bytes are shown by their BLAKE2b digest of 16 bytes.
 ghost use Rattle.std.specs.Prelude.{◌≤◌};
 
-use super::{fill, first_mut, put_bytes, put_number};
-use libc::STDOUT_FILENO;
+use super::{STDOUT_FILENO, fill, first_mut, put_bytes, put_number};
 use words::first;
 
 pub(crate) fn cards() {

@@ -1,9 +1,8 @@
 // Draws a nonce, an iv and a nonce, each on the drawer that the last one handed back. A line has the reader number and
 // the count at the start and then, for each of the three, the number answered, the bytes, and the reader number and
 // the count handed back.
-use super::{put_bytes, put_number};
+use super::{STDOUT_FILENO, put_bytes, put_number};
 use drawer::Drawer;
-use libc::STDOUT_FILENO;
 
 pub(crate) fn draws() {
     from_counts(0);

@@ -2,8 +2,7 @@
 // of last term's, the class, the number answered, the part handed back, and the book and the place where it lies.
 ghost use Rattle.std.specs.Prelude.{◌<◌, ◌≤◌, length};
 
-use super::{fill, put_bytes, put_number};
-use libc::STDOUT_FILENO;
+use super::{STDOUT_FILENO, fill, put_bytes, put_number};
 use words::{Block, first};
 
 // Of each kind the count, how many bytes there are, and the classes of three entries.

@@ -1,14 +1,17 @@
 // Runs document 01's edges, and those of K2 and K3, and prints what each call answered and left, a line for each case.
 // The modules say what their lines hold; numbers are in decimal, bytes in hex, the first byte first, `-` for none.
-ghost use Rattle.std.specs.Prelude.{◌≤◌, length};
+#![tactic(auto)]
 
-use libc::STDOUT_FILENO;
+ghost use Rattle.std.specs.Prelude.{◌≤◌, length};
 
 mod batches; // batches.rt: cards sealed in one go
 mod cards; // cards.rt: sealing and opening
 mod draws; // draws.rt: the drawer of nonces
 mod keys; // keys.rt: the key books
 mod streams; // streams.rt: the key stream
+
+// Where a program prints.
+pub(crate) const STDOUT_FILENO: i32 = 1;
 
 fn main() {
     cards::cards();

@@ -1,8 +1,7 @@
 // Adds the key stream to texts, from starts at both ends of the counter and beyond. A line has the lengths of key and
 // nonce, the start and the length of the text, and then the number answered, where the stream stopped and the bytes of
 // the text.
-use super::{fill, first_mut, put_bytes, put_number};
-use libc::STDOUT_FILENO;
+use super::{STDOUT_FILENO, fill, first_mut, put_bytes, put_number};
 use words::first;
 
 pub(crate) fn streams() {

@@ -5,9 +5,15 @@
 // more; of a text after the key stream, and after the same stream again, each time with the place where the stream
 // stopped before them, eight bytes as the start has them; of a digest the room, which had a5 in each byte. What is not
 // such a line, or has a field of more than 1152 bytes, is a bad line.
+#![tactic(auto)]
+
 use chacha::Streamed;
-use libc::{STDIN_FILENO, STDOUT_FILENO};
 use words::{Block, first, same};
+
+// Where a program reads its input, and where it prints.
+const STDIN_FILENO: i32 = 0;
+
+const STDOUT_FILENO: i32 = 1;
 
 // A field: whether it and those before it are good, and how many bytes it has.
 #[derive(Drop)]

@@ -7,13 +7,16 @@ use crate::tokens::Tokens;
 pub fn functions(text: &str) -> Functions {
     let mut functions = Functions::new();
     let mut tokens = Tokens::of(text);
+    if tokens.take("#") {
+        tokens.expect("! [ tactic ( auto ) ]");
+    }
     while !tokens.at_end() {
         if tokens.take("ghost") || tokens.peek() == "use" {
             tokens.expect("use");
             tokens.skip_through(";");
             continue;
         }
-        tokens.expect("# [ no_mangle ] pub extern \"C\" fn");
+        tokens.expect("# [ unsafe ( no_mangle ) ] pub extern \"C\" fn");
         let name = tokens.name();
         let parameters = parameters(tokens.group());
         tokens.expect("- >");
