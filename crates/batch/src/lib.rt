@@ -1,4 +1,6 @@
 // Twelve cards at a time: texts that lie end to end are sealed one by one, each with the next draw of a drawer.
+#![tactic(auto)]
+
 ghost use Rattle.std.specs.Prelude.{◌≡◌, ◌+◌, ◌*◌, ◌≤◌, eqb, length};
 ghost use Rattle.answers.specs.Answers.{number_of};
 ghost use Rattle.lengths.specs.Lengths.{total};
@@ -10,7 +12,7 @@ use drawer::Drawer;
 
 // What a batch answers: 0 or the refusal, and the drawer for the next draw.
 #[repr(C)]
-#[derive(Drop)]
+#[derive(Clone, Copy)]
 pub struct Batch {
     pub number: u32,
     pub next: Drawer,
@@ -95,9 +97,9 @@ fn seal_each(
 ) -> Drawer
     requires { (total lengths.now ≡ length texts.now) × (length texts.now ≤ length room.old)
         × (length tags.old ≡ 16 * length lengths.now) }
-    ensures { ◌≡◌ {A = Sealed} (record { room = room.exit.now; tags = tags.new; next = result })
+    ensures { ◌≡◌ {A = Sealed} (record { room = room.new; tags = tags.new; next = result })
         (singly key.now «data».now texts.now lengths.now d
-        room.entry.now tags.old) }
+        room.old tags.old) }
 {
     let mut next = d;
     let mut at = 0;
@@ -125,9 +127,9 @@ fn seal_card(
 ) -> Drawer
     requires { (at + n ≤ length texts.now) × (at + n ≤ length room.old)
         × (16 * i + 16 ≤ length tags.old) }
-    ensures { ◌≡◌ {A = Sealed} (record { room = room.exit.now; tags = tags.new; next = result })
+    ensures { ◌≡◌ {A = Sealed} (record { room = room.new; tags = tags.new; next = result })
         (after_card key.now «data».now texts.now i at n
-        (record { room = room.entry.now; tags = tags.old; next = d })) }
+        (record { room = room.old; tags = tags.old; next = d })) }
 {
     let drawn = drawer::draw(d);
     let nonce = drawn.bytes;

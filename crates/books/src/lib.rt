@@ -1,4 +1,6 @@
 // Key books: the key of a class, in this term's book or else in last term's.
+#![tactic(auto)]
+
 ghost use Rattle.std.specs.Prelude.{◌≡◌, cond, ◌+◌, ◌*◌, ◌≤◌, eqb};
 ghost use Rattle.words.specs.Lent.{lent};
 ghost use Rattle.answers.specs.Answers.{answered};

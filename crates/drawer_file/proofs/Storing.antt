@@ -45,7 +45,8 @@ stored_is d n st dg f f' es ed e e' =
     e' ∙ ap₂ (plus_at 12) (e ∙ ap (plus_at 0 (replicate 44 0)) p) q in
     let h : plus_at 12 (plus_at 0 (replicate 44 0) st) dg ≡ st ++ dg =
     ap (λ (n : ℕ). plus_at n (plus_at 0 (replicate 44 0) st) dg) (sym (zero-add (length st) ∙ ls))
-    ∙ plus_at-append 0 (replicate 44 0) st dg ∙ plus_at-first (replicate 44 0) (st ++ dg) ∙ plus-zeros 44 (st ++ dg) l in
+    ∙ plus_at-append 0 (replicate 44 0) st dg ∙ plus_at-first (replicate 44 0) (st ++ dg)
+    ∙ plus-zeros 44 (st ++ dg) l in
     g ∙ h ∙ ap (λ (x : List ℕ). st ++ x) ed' ∙ ap (λ (x : List ℕ). x ++ digest [] x 32) es
 
 -- ---- what is read

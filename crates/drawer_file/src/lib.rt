@@ -1,4 +1,6 @@
 // A drawer as it is stored in a file: the 12 bytes that it draws next, and a digest of them by which damage is seen.
+#![tactic(auto)]
+
 ghost use Rattle.std.specs.Prelude.{◌≡◌};
 ghost use Rattle.drawer_file.specs.DrawerFile.{storing, Loading};
 

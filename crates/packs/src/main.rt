@@ -1,8 +1,12 @@
 // Reads lesson packs at the edges of what is allowed, and prints a line for each: by which rule it is made, with the
 // rule's numbers; for each card its kind, start and length; for what ends the walk 0, the number and the place of a bad
 // entry; and what judging the pack answers, the number, the cards and that place.
-use libc::STDOUT_FILENO;
+#![tactic(auto)]
+
 use words::first;
+
+// The descriptor of the standard output.
+const STDOUT_FILENO: i32 = 1;
 
 // One word, no song; then two bytes too many.
 const LEAST: [u8; 10] = [1, 3, 0x63, 0x61, 0x74, 0, 1, 0, 0, 0];
@@ -20,7 +24,7 @@ const LENGTHS: [u8; 5] = [0, 1, 40, 41, 255];
 
 // A pack by its numbers, which building it does not judge: so many words of one length, so many songs of one length, so
 // many entries.
-#[derive(Drop)]
+#[derive(Clone, Copy)]
 struct Plan {
     words: usize,
     length: usize,

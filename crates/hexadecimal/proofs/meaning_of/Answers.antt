@@ -25,8 +25,7 @@ returns-then-b-lt71 c = (
   simp (
     le-ltb _ _ c.if-b-lt48.false,
     le-ltb _ _ c.if-b-lt58.false,
-    le-ltb _ _
-        c.if-b-lt65.false,
+    le-ltb _ _ c.if-b-lt65.false,
     lt-ltb _ _ c.if-b-lt71.true,
   ),
   omega arith,
@@ -42,8 +41,7 @@ returns-then-b-lt97 c = (
     le-ltb _ _ c.if-b-lt71.false,
     lt-ltb _ _ c.if-b-lt97.true,
   ),
-  lit≤
-      tt,
+  lit≤ tt,
 )
 
 pub returns-then-b-lt103 : goal.returns-then-b-lt103
@@ -51,11 +49,9 @@ unfolding meaning
 returns-then-b-lt103 c = (
   simp (
     le-ltb _ _ c.if-b-lt48.false,
-    le-ltb _ _
-        c.if-b-lt58.false,
+    le-ltb _ _ c.if-b-lt58.false,
     le-ltb _ _ c.if-b-lt65.false,
-    le-ltb _ _
-        c.if-b-lt71.false,
+    le-ltb _ _ c.if-b-lt71.false,
     le-ltb _ _ c.if-b-lt97.false,
     lt-ltb _ _ c.if-b-lt103.true,
   ),
@@ -67,11 +63,9 @@ unfolding meaning
 returns c = (
   simp (
     le-ltb _ _ c.if-b-lt48.false,
-    le-ltb _ _
-        c.if-b-lt58.false,
+    le-ltb _ _ c.if-b-lt58.false,
     le-ltb _ _ c.if-b-lt65.false,
-    le-ltb _ _
-        c.if-b-lt71.false,
+    le-ltb _ _ c.if-b-lt71.false,
     le-ltb _ _ c.if-b-lt97.false,
     le-ltb _ _ c.if-b-lt103.false,
   ),

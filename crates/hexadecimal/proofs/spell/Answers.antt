@@ -12,8 +12,7 @@ use Rattle.hexadecimal.proofs.spell.Goals as goal
 pub returns-then-room-s : goal.returns-then-room-s
 unfolding spelling
 returns-then-room-s c =
-    let e : length c.args.room.now
-    < 2 * length c.args.s.now = omega (arith, c.if-room-s.true) in
+    let e : length c.args.room.now < 2 * length c.args.s.now = omega (arith, c.if-room-s.true) in
     simp (lt-ltb _ _ e)
 
 pub loop-i-init : goal.loop-i-init

@@ -8,7 +8,8 @@ use Rattle.hexadecimal.proofs.spell.Given as goal
 
 abbrev pub invariant-loop-i : goal.invariant-loop-i
 invariant-loop-i l =
-    (length l.room ≡ length l.initial.room) × (sets l.room (2 * l.i) (written (drop l.i l.s)) ≡ over (written l.s) l.initial.room)
+    (length l.room ≡ length l.initial.room) × (sets l.room (2 * l.i) (written (drop l.i l.s))
+    ≡ over (written l.s) l.initial.room)
 
 abbrev pub decreases-loop-i : goal.decreases-loop-i
 decreases-loop-i l = length l.s - l.i
