@@ -1,5 +1,4 @@
 use Prim.Native.Nat.{◌-◌, ◌≤◌}
-use borrow.Author.Rules.{rules}
 use Rattle.edges.proofs.batches.choices.Given as goal
 
 abbrev pub invariant-loop-m : goal.invariant-loop-m

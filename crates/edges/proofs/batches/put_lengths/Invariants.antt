@@ -1,6 +1,5 @@
 use Prim.Native.Nat.{◌-◌, ◌≤◌}
 use lib.ListN.{length}
-use borrow.Author.Rules.{rules}
 use Rattle.edges.proofs.batches.put_lengths.Given as goal
 
 abbrev pub invariant-loop-i : goal.invariant-loop-i

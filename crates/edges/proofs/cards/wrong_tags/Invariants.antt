@@ -1,5 +1,4 @@
 use Prim.Native.Nat.{◌-◌, ◌≤◌}
-use borrow.Author.Rules.{rules}
 use Rattle.edges.proofs.cards.wrong_tags.Given as goal
 
 abbrev pub invariant-loop-bit : goal.invariant-loop-bit
