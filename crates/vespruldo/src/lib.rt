@@ -1,6 +1,7 @@
 // What C and Rust link. Each function but the last two is a thin call with the whole promise of what it calls, by its
 // name; a slice crosses as a pointer and a length, a struct by value.
 #![tactic(auto)]
+
 ghost use Rattle.std.specs.Prelude.{◌≡◌};
 ghost use Rattle.words.specs.Search.{same};
 ghost use Rattle.gift.specs.Entry as gift;
