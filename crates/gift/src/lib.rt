@@ -92,12 +92,11 @@ fn forty_rounds(back: bool, a: RoundKeys, x: Block) -> Block
     ensures { result ≡ halves (forty back (round_key_in a) (value x)) }
 {
     let places = places::PLACES;
-    let rounds = a.rounds;
     let mut y = x;
     let mut r: usize = 0;
     while r < 40 {
         let at = round_index(back, r);
-        y = round_of(back, rounds[at], y, &places);
+        y = round_of(back, a.rounds[at], y, &places);
         r += 1;
     }
     y
