@@ -1,5 +1,8 @@
 -- The compression, the run over the data and the digest, of what the code's calls ensure.
-use Rattle.std.proofs.Common.{◌≡◌, ℕ, zero, suc, ◌+◌, ◌-◌, ◌*◌, ◌/◌, ◌^◌, ◌<◌, ◌≤◌, Bool, true, false, cond, List, [], ◌∷◌, ◌++◌, length, get_or, take, drop, sym, refl, ap, ◌∙◌, append-nil, mod-eq_of_lt, arith, length-append, length-drop, length-take, length-take-le, take_all, drop-drop, take_at, drop_at, ltb-false, le-ltb, ne_eqb}
+use Rattle.std.proofs.Common.{◌≡◌, ℕ, zero, suc, ◌+◌, ◌-◌, ◌*◌, ◌/◌, ◌^◌, ◌<◌, ◌≤◌, Bool, true, false, cond, List, []}
+use Rattle.std.proofs.Common.{◌∷◌, ◌++◌, length, get_or, take, drop, sym, refl, ap, ◌∙◌, append-nil, mod-eq_of_lt}
+use Rattle.std.proofs.Common.{arith, length-append, length-drop, length-take, length-take-le, take_all, drop-drop}
+use Rattle.std.proofs.Common.{take_at, drop_at, ltb-false, le-ltb, ne_eqb}
 use native.Mathlib.Nat.{div-eq_of_lt}
 use lib.Bits.{bit_xor}
 use lib.Seq.{sets}

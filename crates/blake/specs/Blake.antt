@@ -1,6 +1,7 @@
 -- BLAKE2b, as RFC 7693 fixes it; the numbers of its sections stand before each part. Words have 64 bits; a vector is a
 -- list of sixteen of them, a chain value a list of eight.
-use Rattle.std.specs.Prelude.{ℕ, zero, suc, ◌+◌, ◌-◌, ◌*◌, ◌/◌, ◌%◌, ◌^◌, Bool, true, false, cond, List, [], ◌∷◌, ◌++◌, length, take, drop, bit_xor, slice_index, slice_set}
+use Rattle.std.specs.Prelude.{ℕ, zero, suc, ◌+◌, ◌-◌, ◌*◌, ◌/◌, ◌%◌, ◌^◌, Bool, true, false, cond, List, [], ◌∷◌, ◌++◌}
+use Rattle.std.specs.Prelude.{length, take, drop, bit_xor, slice_index, slice_set}
 use Rattle.words.specs.Bytes.{filled}
 use Rattle.words.specs.Digits.{sum_mod, rotr, tab}
 use Rattle.words.specs.Square.{square}

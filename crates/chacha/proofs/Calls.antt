@@ -1,6 +1,7 @@
 -- Calls of the key stream, by the entry point's definition: when they are done and where they stop, called twice, cut
 -- after whole blocks, and in bursts.
-use Rattle.std.proofs.Common.{◌≡◌, ℕ, ◌+◌, ◌^◌, ◌<◌, ◌≤◌, List, [], ◌∷◌, ◌++◌, length, sym, refl, ap, ◌∙◌, ap₂, arith, length-append, ltb-false, le-ltb, lt-ltb, eq-eqb, eqb-true}
+use Rattle.std.proofs.Common.{◌≡◌, ℕ, ◌+◌, ◌^◌, ◌<◌, ◌≤◌, List, [], ◌∷◌, ◌++◌, length, sym, refl, ap, ◌∙◌, ap₂, arith}
+use Rattle.std.proofs.Common.{length-append, ltb-false, le-ltb, lt-ltb, eq-eqb, eqb-true}
 use borrow.Author.Tests.{not-false}
 use Rattle.answers.specs.Answers.{answered}
 use Rattle.answers.proofs.Answers.{Clear, refuse-clear, answer-done, answer-has}

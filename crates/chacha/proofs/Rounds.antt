@@ -1,5 +1,6 @@
 -- The rounds and the block, of what the code's calls ensure.
-use Rattle.std.proofs.Common.{◌≡◌, ℕ, ◌*◌, ◌<◌, ◌≤◌, List, length, get_or, drop, set, replicate, refl, ap, ◌∙◌, arith, take_all}
+use Rattle.std.proofs.Common.{◌≡◌, ℕ, ◌*◌, ◌<◌, ◌≤◌, List, length, get_or, drop, set, replicate, refl, ap, ◌∙◌, arith}
+use Rattle.std.proofs.Common.{take_all}
 use lib.Bits.{bit_xor}
 use lib.Seq.{sets}
 use Rattle.words.specs.Digits.{sum_mod, rotl, tab}

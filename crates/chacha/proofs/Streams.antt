@@ -1,5 +1,6 @@
 -- The key stream: one block on, adding it twice, and cutting it after whole blocks.
-use Rattle.std.proofs.Common.{◌≡◌, ℕ, zero, suc, ◌+◌, ◌*◌, List, ◌++◌, length, sym, refl, ap, ◌∙◌, append_assoc, add-zero, add-suc, suc-add, zero-add, add-one, arith, length-append, take_all}
+use Rattle.std.proofs.Common.{◌≡◌, ℕ, zero, suc, ◌+◌, ◌*◌, List, ◌++◌, length, sym, refl, ap, ◌∙◌, append_assoc}
+use Rattle.std.proofs.Common.{add-zero, add-suc, suc-add, zero-add, add-one, arith, length-append, take_all}
 use Rattle.words.specs.Block.{part}
 use Rattle.words.specs.Bytes.{plus, plus_at}
 use Rattle.words.proofs.Plus.{length-plus, plus-twice, plus-append, plus_at-first, plus_at-none, plus_at-append}

@@ -13,7 +13,8 @@ use Rattle.words.specs.Iterate.{iterate}
 use Rattle.words.proofs.Blocks.{whole, value-is}
 use Rattle.words.proofs.Rotation.{rotr-is, rotr-lt}
 use Rattle.words.proofs.Iterate.{iterate-next}
-use Rattle.gift.specs.Gift.{word, key_u, key_v, key_bits, step_const, round_const, const_bits, key_step, key_at, round_key}
+use Rattle.gift.specs.Gift.{word, key_u, key_v, key_bits, step_const, round_const, const_bits, key_step, key_at}
+use Rattle.gift.specs.Gift.{round_key}
 use Rattle.words.proofs.Fields.{field-low, from-high}
 
 -- ---- U and V
@@ -75,7 +76,8 @@ pub state-next : (k r : ℕ) {s t : Block} → s ≡ halves (key_at k r) → t �
 state-next k r es et = et ∙ ap halves (iterate-next (λ i. key_step) r k (value-is es) refl)
 
 -- what is added
-pub round_key-next : (k r : ℕ) {s u v w : Block} {c d : ℕ} → s ≡ halves (key_at k r) → c ≡ round_const r → d ≡ step_const c
+pub round_key-next : (k r : ℕ) {s u v w : Block} {c d : ℕ} → s ≡ halves (key_at k r) → c ≡ round_const r → d
+    ≡ step_const c
     → u ≡ halves (key_bits (value s)) → v ≡ halves (const_bits d) → w ≡ halves (bit_xor (value u) (value v))
     → w ≡ halves (round_key k r)
 unfolding round_key iterate

@@ -1,7 +1,8 @@
 -- GIFT-128, as document 01's section of that name fixes it; the sentences in quotes are its own.
 -- "A block is a number of 128 bits": blocks and key states are numbers below 2 ^ 128. The direction is a Bool, true for
 -- the way back: "Deciphering undoes the rounds."
-use Rattle.std.specs.Prelude.{ℕ, zero, suc, ◌+◌, ◌-◌, ◌*◌, ◌/◌, ◌%◌, ◌^◌, Bool, true, false, cond, List, [], ◌∷◌, eqb, get_or}
+use Rattle.std.specs.Prelude.{ℕ, zero, suc, ◌+◌, ◌-◌, ◌*◌, ◌/◌, ◌%◌, ◌^◌, Bool, true, false, cond, List, [], ◌∷◌, eqb}
+use Rattle.std.specs.Prelude.{get_or}
 use Rattle.std.specs.Int.Bits.{bit_xor}
 use Rattle.words.specs.Digits.{digit, rotr, xsum}
 use Rattle.words.specs.Iterate.{iterate}

@@ -5,7 +5,8 @@ use mathlib.Core.List.{List, [], ◌∷◌}
 use Prim.Native.Nat.{ℕ}
 use Rattle.words.specs.Bytes.{over}
 use Rattle.hexadecimal.specs.declared.Hex.{Hex}
-use Rattle.hexadecimal.specs.Hex.{glyph, digits_of, written, word_of, showing, meaning, Reading, start, taken_byte, taken_in}
+use Rattle.hexadecimal.specs.Hex.{glyph, digits_of, written, word_of, showing, meaning, Reading, start, taken_byte}
+use Rattle.hexadecimal.specs.Hex.{taken_in}
 
 -- a text, read into room for two bytes
 abbrev taken : List ℕ → Reading

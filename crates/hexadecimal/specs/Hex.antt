@@ -1,5 +1,6 @@
 -- Bytes in hex: how they are written, and how a text is read, which may come in pieces.
-use Rattle.std.specs.Prelude.{◌≡◌, ℕ, ◌+◌, ◌-◌, ◌*◌, ◌/◌, ◌%◌, true, false, cond, List, [], ◌∷◌, ◌++◌, eqb, ltb, length, set}
+use Rattle.std.specs.Prelude.{◌≡◌, ℕ, ◌+◌, ◌-◌, ◌*◌, ◌/◌, ◌%◌, true, false, cond, List, [], ◌∷◌, ◌++◌, eqb, ltb, length}
+use Rattle.std.specs.Prelude.{set}
 use Rattle.words.specs.Bytes.{over}
 use Rattle.answers.specs.Answers.{Answer, answered, answer}
 use Rattle.hexadecimal.specs.declared.Hex.{Hex}

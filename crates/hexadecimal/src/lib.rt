@@ -4,7 +4,8 @@
 
 ghost use Rattle.std.specs.Prelude.{◌≡◌, [], ◌+◌, ◌≤◌, ◌<◌, cond, ltb, length, set};
 ghost use Rattle.std.proofs.lemmas.List.Edits.{sets};
-ghost use Rattle.hexadecimal.specs.Hex.{white, meaning, glyph, digits_of, start, taken_byte, TakingIn, Spelling, Showing};
+ghost use Rattle.hexadecimal.specs.Hex.{white, meaning, glyph, digits_of, start, taken_byte, TakingIn, Spelling};
+ghost use Rattle.hexadecimal.specs.Hex.{Showing};
 
 // How far a text has been read: whether all of it was digits and white space, the high digit that waits for its low
 // one, and how many bytes are in the room.

@@ -52,7 +52,14 @@ module _ (E : ℕ → ℕ) (a : List ℕ) (h : Bytes a) where
       let n = length a - 16 * before a in
       let ends : low n (value d) ≡ last a = ap (low n) (value-is ed)
       ∙ loaded-back a (16 * before a) n h (omega arith) (omega arith) ∙ last-part a in
-      et ∙ ap held_x (rw (ne_eqb (length a) 0 some, ek, es, read_y-held (data_at E a f (before a)), ends, last-length a))
+      et ∙ ap held_x (rw (
+        ne_eqb (length a) 0 some,
+        ek,
+        es,
+        read_y-held (data_at E a f (before a)),
+        ends,
+        last-length a,
+      ))
 
 pub data-none : (E : ℕ → ℕ) (f : mode.StateY) (a : List ℕ) {t : StateX} → length a ≡ 0
     → t ≡ held_x (data_last 2 f (low 16 (value (record { lo = 1; hi = 0 })))) → t ≡ held_x (after_data E f a)
@@ -71,7 +78,8 @@ module _ (E : ℕ → ℕ) (opening : Bool) (s : List ℕ) (h : Bytes s) where
   -- a block of it, in the code's steps
   pub part-is : (t : StateX) (k at n : ℕ) (room : List ℕ) {u : StateX} {d o : Block} {room' : List ℕ} → n ≤ 16
       → at + n ≤ length s → d ≡ halves (loaded s at n)
-      → u ≡ held_x (text_block E opening k (read_x t) (low n (value d))) → o ≡ halves (bit_xor (value d) (E (value t.x)))
+      → u ≡ held_x (text_block E opening k (read_x t) (low n (value d))) → o
+      ≡ halves (bit_xor (value d) (E (value t.x)))
       → room' ≡ stored room at n (value o)
       → (u ≡ held_x (text_block E opening k (read_x t) (part s at n)))
       × (room' ≡ sets room at (output (part s at n) (E (value t.x))))

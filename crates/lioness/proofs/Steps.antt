@@ -57,7 +57,8 @@ module _ (j : ℕ) (key iv : List ℕ) (low : 1 ≤ j) (high : j ≤ 4) (hk : le
       let b = piece 12 j iv in
       e' ∙ ap (λ (l : List ℕ). plus_at 32 l b) e ∙ ap (λ (n : ℕ). plus_at n (plus_at 0 (replicate 44 0) a) b)
       (sym (zero-add (length a) ∙ key-piece))
-      ∙ plus_at-append 0 (replicate 44 0) a b ∙ plus_at-first (replicate 44 0) (a ++ b) ∙ plus-zeros 44 (a ++ b) hash-key
+      ∙ plus_at-append 0 (replicate 44 0) a b ∙ plus_at-first (replicate 44 0) (a ++ b)
+      ∙ plus-zeros 44 (a ++ b) hash-key
 
   module _ (block : List ℕ) (least : 33 ≤ length block) (most : length block ≤ 1048608) where
     -- the right part, lent whole

@@ -46,7 +46,8 @@ number-split (suc k) (b ∷ s) =
     )
 
 -- the first byte is the lowest
-pub number-first : (s : List ℕ) (j : ℕ) → j < length s → number (drop j s) ≡ number (drop (suc j) s) * 256 + get_or s j 0
+pub number-first : (s : List ℕ) (j : ℕ) → j < length s → number (drop j s)
+    ≡ number (drop (suc j) s) * 256 + get_or s j 0
 unfolding number
 number-first s j h = rw (drop-cons s j 0 h)
 

@@ -7,7 +7,8 @@ use native.Mathlib.Nat.{zero-add, suc-add, suc_inj, not-suc-le-zero, le_of_suc-l
 use native.Mathlib.Numerals.{add-one}
 use native.Mathlib.Omega.{arith}
 use lib.Bits.{bit_xor, xor_lt, xor_mod, xor_shr}
-use lib.ListN.{length, get_or, take, drop, set, replicate, length-take, length-drop, take-append-drop, drop_of_length-le}
+use lib.ListN.{length, get_or, take, drop, set, replicate, length-take, length-drop, take-append-drop}
+use lib.ListN.{drop_of_length-le}
 use lib.Seq.{drop-cons, get_or-take, get_or-drop, take_all}
 use Rattle.words.specs.Block.{part}
 use Rattle.words.specs.Bytes.{Bytes, bytes, plus, plus_at}

@@ -8,7 +8,8 @@ use Rattle.batch.proofs.seal_each.Given as goal
 
 abbrev pub invariant-loop-i : goal.invariant-loop-i
 invariant-loop-i l =
-    (l.at + total (drop l.i l.lengths) ≡ length l.texts) × (length l.room ≡ length l.initial.room) × (length l.tags ≡ length l.initial.tags)
+    (l.at + total (drop l.i l.lengths) ≡ length l.texts) × (length l.room ≡ length l.initial.room)
+    × (length l.tags ≡ length l.initial.tags)
     × (from_card l.key l.data l.texts l.lengths l.i l.at (record { room = l.room; tags = l.tags; next = l.next })
     ≡ singly l.key l.data l.texts l.lengths l.initial.next l.initial.room l.initial.tags)
 

@@ -27,11 +27,13 @@ moves t i p e is h = e ∙ ap (λ t. get_or t i 0) is ∙ tab-at place 0 128 i h
 -- from where, and to where
 from : (c : After-either-from) →
     c.either-from.result ≡ cond c.args.back (place c.loop-i.i) c.loop-i.i
-from c = c.either-from.ensures ∙ ap (λ (p : ℕ). cond c.args.back p c.loop-i.i) (moves _ _ _ c.wide-p.ensures c.requires (omega arith))
+from c = c.either-from.ensures
+    ∙ ap (λ (p : ℕ). cond c.args.back p c.loop-i.i) (moves _ _ _ c.wide-p.ensures c.requires (omega arith))
 
 to : (c : After-either-to) →
     c.either-to.result ≡ cond c.args.back c.loop-i.i (place c.loop-i.i)
-to c = c.either-to.ensures ∙ ap (λ (p : ℕ). cond c.args.back c.loop-i.i p) (moves _ _ _ c.wide-p.ensures c.requires (omega arith))
+to c = c.either-to.ensures
+    ∙ ap (λ (p : ℕ). cond c.args.back c.loop-i.i p) (moves _ _ _ c.wide-p.ensures c.requires (omega arith))
 
 pub bits_at-requires : goal.bits_at-requires
 bits_at-requires c =
@@ -41,7 +43,8 @@ bits_at-requires c =
 
 pub put-acc-requires : goal.put-acc-requires
 put-acc-requires c = (
-  rw (to (goal.at.put-acc-requires c).After-either-to) (cond-lt c.args.back (omega arith) (place-lt c.loop-i.i (omega arith))),
+  rw (to (goal.at.put-acc-requires c).After-either-to)
+      (cond-lt c.args.back (omega arith) (place-lt c.loop-i.i (omega arith))),
   put-fits
       _ 1 c.either-to.result (omega arith) (omega arith),
 )
@@ -53,7 +56,8 @@ loop-i-preserved c =
       sum-next (λ k. bit (cond a.back (place k) k) (value a.x) * 2 ^ cond a.back k (place k)) c.loop-i.i
           c.loop-i.invariant.1 c.put-acc.ensures
           (ap₂ (λ (v p : ℕ). v * 2 ^ p) (c.bits_at.ensures
-          ∙ ap (λ (i : ℕ). bit i (value a.x)) (from (goal.at.loop-i-preserved c).After-either-from)) (to (goal.at.loop-i-preserved c).After-either-to)),
+          ∙ ap (λ (i : ℕ). bit i (value a.x)) (from (goal.at.loop-i-preserved c).After-either-from))
+          (to (goal.at.loop-i-preserved c).After-either-to)),
     )
 
 pub returns : goal.returns

@@ -45,4 +45,5 @@ pub returns : goal.returns
 unfolding round_keys
 returns c =
     let l = c.loop-i in
-    ap (λ o. record { rounds = o }) (fill_end _ (halves 0) l.out 40 l.invariant.4 (λ j h. l.invariant.5 j (omega arith)))
+    ap (λ o. record { rounds = o })
+    (fill_end _ (halves 0) l.out 40 l.invariant.4 (λ j h. l.invariant.5 j (omega arith)))

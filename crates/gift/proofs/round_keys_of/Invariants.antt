@@ -7,7 +7,8 @@ use Rattle.gift.proofs.round_keys_of.Given as goal
 
 abbrev pub invariant-loop-i : goal.invariant-loop-i
 invariant-loop-i l =
-    (l.i ≤ 40) × (l.c < 64) × (l.c ≡ round_const l.i) × (l.state ≡ halves (key_at (value l.initial.state) l.i)) × (length l.out ≡ 40)
+    (l.i ≤ 40) × (l.c < 64) × (l.c ≡ round_const l.i) × (l.state ≡ halves (key_at (value l.initial.state) l.i))
+    × (length l.out ≡ 40)
     × ((j : ℕ) → j < l.i → get_or l.out j (halves 0) ≡ halves (round_key (value l.initial.state) j))
 
 abbrev pub decreases-loop-i : goal.decreases-loop-i

@@ -10,7 +10,8 @@ use Rattle.hyena.proofs.all_text.Given as goal
 abbrev pub invariant-loop-i : goal.invariant-loop-i
 invariant-loop-i l =
     (l.i ≤ l.n) × (length l.room ≡ length l.initial.room)
-    × Held (text_at (enciphers l.e) l.opening (source l.in_place l.text l.initial.room) (read_x l.initial.s) l.i) l.initial.room l.s l.room
+    × Held (text_at (enciphers l.e) l.opening (source l.in_place l.text l.initial.room) (read_x l.initial.s) l.i)
+    l.initial.room l.s l.room
 
 abbrev pub decreases-loop-i : goal.decreases-loop-i
 decreases-loop-i l = l.n - l.i

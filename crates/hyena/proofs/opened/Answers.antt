@@ -17,7 +17,8 @@ returns-then-equal c =
     let a = c.args in
     let given : Inputs = inputs a.key.now a.nonce.now a.data.now (source a.in_place a.ciphertext.now a.room.now) in
     -- no length is refused
-    let lengths = not-refused given a.tag.now a.room.now c.source_len-n.ensures c.refusal-refused.ensures c.if-refused-ne0.false in
+    let lengths = not-refused given a.tag.now a.room.now c.source_len-n.ensures c.refusal-refused.ensures
+    c.if-refused-ne0.false in
     -- the recomputed tag is a block
     let low : c.run-t.result.lo < 2 ^ 64 = omega arith in
     let high : c.run-t.result.hi < 2 ^ 64 = omega arith in
@@ -28,7 +29,8 @@ pub returns : goal.returns
 returns c =
     let a = c.args in
     let given : Inputs = inputs a.key.now a.nonce.now a.data.now (source a.in_place a.ciphertext.now a.room.now) in
-    let lengths = not-refused given a.tag.now a.room.now c.source_len-n.ensures c.refusal-refused.ensures c.if-refused-ne0.false in
+    let lengths = not-refused given a.tag.now a.room.now c.source_len-n.ensures c.refusal-refused.ensures
+    c.if-refused-ne0.false in
     let low : c.run-t.result.lo < 2 ^ 64 = omega arith in
     let high : c.run-t.result.hi < 2 ^ 64 = omega arith in
     wrong-is gift given _ _ lengths low high c.run-t.ensures.0 c.run-t.ensures.1 c.load.ensures

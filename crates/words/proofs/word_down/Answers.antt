@@ -30,10 +30,16 @@ turn c =
     )
 
 pub overflow_mul-acc : goal.overflow_mul-acc
-overflow_mul-acc c = omega (arith, (turn (goal.at.overflow_mul-acc c).In-loop-i).0, (turn (goal.at.overflow_mul-acc c).In-loop-i).1)
+overflow_mul-acc c = omega
+    (arith, (turn (goal.at.overflow_mul-acc c).In-loop-i).0, (turn (goal.at.overflow_mul-acc c).In-loop-i).1)
 
 pub overflow_add-acc : goal.overflow_add-acc
-overflow_add-acc c = omega (arith, (turn (goal.at.overflow_add-acc c).In-loop-i).0, (turn (goal.at.overflow_add-acc c).In-loop-i).1, c.wide.ensures)
+overflow_add-acc c = omega (
+  arith,
+  (turn (goal.at.overflow_add-acc c).In-loop-i).0,
+  (turn (goal.at.overflow_add-acc c).In-loop-i).1,
+  c.wide.ensures,
+)
 
 pub loop-i-preserved : goal.loop-i-preserved
 loop-i-preserved c = (omega arith, rw c.wide.ensures (turn (goal.at.loop-i-preserved c).In-loop-i).0)
