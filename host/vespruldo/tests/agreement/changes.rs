@@ -128,7 +128,7 @@ archive | "C" is expected, not "system"            | extern "C" => extern "syste
 archive | struct is expected, not const            | pub struct Found => pub const Found
 rattle  | not understood: the type i64             | start: u64 => start: i64
 rattle  | not understood: the type Given           | -> PackCard => -> Given
-rattle  | # is expected, not pub extern            | #[no_mangle] =>
+rattle  | # is expected, not pub extern            | #[unsafe(no_mangle)] =>
 rattle  | "C" is expected, not "rust"              | extern "C" => extern "rust"
 symbols | not understood: 0000000000000000 D       | T vespruldo_open\n => D vespruldo_open\n
 sizes   | a number is expected, not KEY            | usize = 16; => usize = KEY;
