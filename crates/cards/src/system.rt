@@ -1,4 +1,5 @@
-// What the tool asks of the system: files by name, the words of the command line, the standard streams and random bytes.
+// What the tool asks of the system: files by name, the words of the command line, the standard streams and random
+// bytes.
 // The methods are of the library's files and streams, which it does not promise of every system's.
 use std::io::{Input, IsTerminal, Print, Result};
 use std::os::fd::{AsFd, AsRawFd, IntoRawFd};
