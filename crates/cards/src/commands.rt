@@ -5,7 +5,7 @@ use crate::text::Text;
 use crate::{tables, text};
 use words::first;
 
-#[derive(Drop)]
+#[derive(Clone, Copy)]
 pub(crate) enum Command {
     Seal,
     Open,
@@ -24,7 +24,7 @@ pub(crate) enum Command {
 }
 
 // A name is filled with blanks.
-#[derive(Drop)]
+#[derive(Clone, Copy)]
 struct CommandRow {
     command: Command,
     name: [u8; 9],
@@ -103,7 +103,7 @@ const SENTENCES: [u8; 446] = *b"0 seals a text, and writes a card
 ";
 
 // A command that a word names, if there is one.
-#[derive(Drop)]
+#[derive(Clone, Copy)]
 pub(crate) struct Named {
     pub good: bool,
     pub command: Command,

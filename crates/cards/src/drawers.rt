@@ -2,51 +2,55 @@
 // beside it keeps every other `cards` from drawing.
 use crate::files::Status;
 use crate::options::{Opt, Options};
-use crate::outputs::Target;
+use crate::outputs::Made;
 use crate::refusal::Refusal;
+use crate::system::System;
 use crate::text::Text;
 use crate::{files, inputs, names, options, outputs, refusal, text};
 use drawer::Drawer;
 use drawer_file::Loaded;
+use std::io::{Error, ErrorKind, Read, Seek, SeekFrom};
+use std::rt::{Env, Files};
 use words::first;
 
-// What was refused, or the drawer, and the file in the folder beside it, open for its next state.
+// The drawer, and the file in the folder beside it, open for its next state.
 #[derive(Drop)]
-pub(crate) struct Held {
-    pub refusal: Refusal,
+pub(crate) struct Held<F> {
     pub drawer: Drawer,
-    pub fd: i32,
+    pub file: F,
 }
 
 // A reader's number, or what was refused.
-#[derive(Drop)]
+#[derive(Clone, Copy)]
 struct Chosen {
     refusal: Refusal,
     reader: u32,
 }
 
 // Makes a drawer file.
-pub(crate) fn start(o: Options) -> Refusal {
-    let chosen = reader_of(o);
+pub(crate) fn start(rt: &impl System, o: Options) -> Refusal {
+    let chosen = reader_of(rt, o);
     let r = chosen.refusal;
     if r.number != 0 {
         return r;
     }
-    let d = drawer::start(chosen.reader, inputs::number(o, Opt::Count).value);
-    let target = outputs::claim_name(o, Opt::Drawer, false);
-    started(target, o, d)
+    let d = drawer::start(chosen.reader, inputs::number(rt, o, Opt::Count).value);
+    match outputs::claim_name(rt, o, Opt::Drawer, false) {
+        Ok(made) => started(rt, made, o, d),
+        Err(bad) => bad,
+    }
 }
 
 // The number that is given, or one from the system's random source.
-fn reader_of(o: Options) -> Chosen {
+fn reader_of(rt: &impl System, o: Options) -> Chosen {
     let mut random = [0u8; 4];
     if options::given(o, Opt::Reader) {
         return Chosen {
             refusal: refusal::none(),
-            reader: (inputs::number(o, Opt::Reader).value % 4294967296) as u32,
+            reader: (inputs::number(rt, o, Opt::Reader).value % 4294967296) as u32,
         };
     }
-    let bad = libc::getentropy(&mut random) != 0;
+    let bad = rt.fill_bytes(&mut random).is_err();
     Chosen {
         refusal: no_random(bad),
         reader: (words::load(&random, 0, 4).lo % 4294967296) as u32,
@@ -61,42 +65,44 @@ fn no_random(bad: bool) -> Refusal {
 }
 
 // A number that nobody gave is said when the drawer is there, and the drawer removed if that fails.
-fn started(target: Target, o: Options, d: Drawer) -> Refusal {
-    let bad = target.refusal;
-    if bad.number != 0 {
-        return bad;
-    }
+fn started<R: System>(rt: &R, made: Made<R::File>, o: Options, d: Drawer) -> Refusal {
     let stored = drawer_file::store(d);
     let file = stored.bytes;
-    let r = outputs::write_file(o, Opt::Drawer, target, &file);
+    let r = outputs::write_file(rt, o, Opt::Drawer, made, &file);
     if r.number != 0 {
         return r;
     }
-    let s = reader_said(o, d.reader);
+    let s = reader_said(rt, o, d.reader);
     if s.number != 0 {
-        names::unlink(options::word_of(o, Opt::Drawer));
+        names::unlink(rt, options::word_of(rt, o, Opt::Drawer));
     }
     s
 }
 
-fn reader_said(o: Options, reader: u32) -> Refusal {
+fn reader_said(rt: &impl System, o: Options, reader: u32) -> Refusal {
     if options::given(o, Opt::Reader) {
         return refusal::none();
     }
-    outputs::said(text::number(b"reader ", reader as u64, b"\n"))
+    outputs::said(rt, text::number(b"reader ", reader as u64, b"\n"))
 }
 
 // Draws a number and writes it.
-pub(crate) fn draw(o: Options) -> Refusal {
-    let h = take(o);
-    let bad = h.refusal;
-    if bad.number != 0 {
-        return bad;
-    }
+pub(crate) fn draw(rt: &impl System, o: Options) -> Refusal {
+    let h = match take(rt, o) {
+        Ok(h) => h,
+        Err(bad) => return bad,
+    };
     let drawn = drawer::draw(h.drawer);
     let number = drawn.bytes;
     let next = drawn.next;
-    spend(options::printed(o), h, next, spent(drawn.number), &number)
+    spend(
+        rt,
+        options::printed(o),
+        h,
+        next,
+        spent(drawn.number),
+        &number,
+    )
 }
 
 // What the number of a draw refuses.
@@ -108,46 +114,51 @@ pub(crate) fn spent(number: u32) -> Refusal {
 }
 
 // Keeps the next state, and then writes the output. Where something was refused, the drawer stays as it was.
-pub(crate) fn spend(o: Options, h: Held, next: Drawer, bad: Refusal, bytes: &[u8]) -> Refusal {
-    let target = outputs::claim(refusal::or(bad, in_lock(o)), o, false);
-    let taken = target.refusal;
+pub(crate) fn spend<R: System>(
+    rt: &R,
+    o: Options,
+    h: Held<R::File>,
+    next: Drawer,
+    bad: Refusal,
+    bytes: &[u8],
+) -> Refusal {
+    let target = outputs::claim(rt, refusal::or(bad, in_lock(rt, o)), o, false);
+    let taken = outputs::refused(&target);
     if taken.number != 0 {
-        let_go(o, h.fd);
+        let_go(rt, o, h.file);
         return taken;
     }
-    let kept = keep(o, h.fd, next);
+    let kept = keep(rt, o, h.file, next);
     if kept.number != 0 {
-        outputs::release(target);
+        outputs::release(rt, target);
         return kept;
     }
-    outputs::write(target, o, bytes)
+    outputs::write(rt, target, o, bytes)
 }
 
 // The folder beside the drawer is removed when it is kept, and nothing else may lie in it.
-fn in_lock(o: Options) -> Refusal {
-    let out = options::word_of(o, Opt::Out);
-    if out.len > 0 && names::same_file(names::folder(out), beside(o)) {
+fn in_lock<R: Env + Files>(rt: &R, o: Options) -> Refusal {
+    let out = options::word_of(rt, o, Opt::Out);
+    if out.len > 0 && names::same_file(rt, names::folder(out), beside(rt, o)) {
         return refusal::about(Opt::Out, refusal::NOT_WRITTEN, refusal::DRAWERS_OWN);
     }
     refusal::none()
 }
 
 // Takes the drawer: nobody else can until it is kept or let go.
-pub(crate) fn take(o: Options) -> Held {
-    let name = options::word_of(o, Opt::Drawer);
-    let r = not_alone(names::status(name, false));
+pub(crate) fn take<R: System>(rt: &R, o: Options) -> Result<Held<R::File>, Refusal> {
+    let name = options::word_of(rt, o, Opt::Drawer);
+    let r = not_alone(names::status(rt, name, false));
     if r.number != 0 {
-        return not_held(r);
+        return Err(r);
     }
-    let folder = names::open_read(names::folder(name));
-    if folder < 0 {
-        return not_held(not_locked(o)); // what is drawn could not be brought to the disk
+    if let Err(e) = names::open_read(rt, names::folder(name)) {
+        return Err(not_locked(rt, o, e)); // what is drawn could not be brought to the disk
     }
-    libc::close(folder);
-    if files::make_private(beside(o)) != 0 {
-        return not_held(not_locked(o));
+    if let Err(e) = files::make_private(rt, beside(rt, o)) {
+        return Err(not_locked(rt, o, e));
     }
-    taken(o, name, names::create(state(o)))
+    taken(rt, o, name)
 }
 
 // A new state would take a symbolic link's place, or that of one of two names, and leave the old state under the other,
@@ -163,37 +174,34 @@ fn not_alone(s: Status) -> Refusal {
     refusal::none()
 }
 
-fn taken(o: Options, name: Text, fd: i32) -> Held {
-    if fd < 0 {
-        let r = refusal::by_system(Opt::Drawer, refusal::NOT_WRITTEN);
-        names::rmdir(beside(o));
-        return not_held(r);
-    }
-    let h = opened(name, fd);
-    let bad = h.refusal;
-    if bad.number != 0 {
-        let_go(o, fd);
-    }
-    h
-}
-
-fn not_held(r: Refusal) -> Held {
-    Held {
-        refusal: r,
-        drawer: drawer::start(0, 0),
-        fd: 0,
+fn taken<R: System>(rt: &R, o: Options, name: Text) -> Result<Held<R::File>, Refusal> {
+    let file = match names::create(rt, state(rt, o)) {
+        Ok(file) => file,
+        Err(e) => {
+            names::rmdir(rt, beside(rt, o));
+            return Err(refusal::by_system(Opt::Drawer, refusal::NOT_WRITTEN, e));
+        }
+    };
+    match opened(rt, name) {
+        Ok(d) => Ok(Held {
+            drawer: d,
+            file: file,
+        }),
+        Err(bad) => {
+            let_go(rt, o, file);
+            Err(bad)
+        }
     }
 }
 
-fn not_locked(o: Options) -> Refusal {
-    let e = os::errno();
-    if e == libc::EEXIST {
-        return in_use(names::status(beside(o), false));
+fn not_locked<R: Env + Files>(rt: &R, o: Options, e: Error) -> Refusal {
+    match e.kind() {
+        ErrorKind::AlreadyExists => in_use(names::status(rt, beside(rt, o), false)),
+        ErrorKind::NotFound | ErrorKind::NotADirectory => {
+            refusal::by_system(Opt::Drawer, refusal::NOT_READ, e)
+        }
+        _ => refusal::by_system(Opt::Drawer, refusal::NOT_WRITTEN, e),
     }
-    if e == libc::ENOENT || e == libc::ENOTDIR {
-        return refusal::by_system(Opt::Drawer, refusal::NOT_READ);
-    }
-    refusal::by_system(Opt::Drawer, refusal::NOT_WRITTEN)
 }
 
 // Only a folder is another's that draws, and may have gone by now; anything else has the name by chance, and nobody is
@@ -205,30 +213,22 @@ fn in_use(s: Status) -> Refusal {
     refusal::about(Opt::Drawer, refusal::IN_USE, refusal::IN_THE_WAY)
 }
 
-fn opened(name: Text, fd: i32) -> Held {
-    let from = names::open_update(name);
-    if from < 0 {
-        return not_held(not_opened(name, refusal::error()));
-    }
-    let k = kept_in(from);
-    libc::close(from);
+fn opened(rt: &impl Files, name: Text) -> Result<Drawer, Refusal> {
+    let mut from = match names::open_update(rt, name) {
+        Ok(from) => from,
+        Err(e) => return Err(not_opened(rt, name, refusal::error(e))),
+    };
+    let k = kept_in(&mut from);
     if k.number != 0 {
-        return not_held(refusal::about(Opt::Drawer, refusal::DAMAGED, refusal::NO_REASON));
+        return Err(refusal::about(Opt::Drawer, refusal::DAMAGED, refusal::NO_REASON));
     }
-    let d = k.drawer;
-    Held {
-        refusal: refusal::none(),
-        drawer: d,
-        fd: fd,
-    }
+    Ok(k.drawer)
 }
 
 // A drawer that can be read, as another user's, cannot be written.
-fn not_opened(name: Text, error: usize) -> Refusal {
-    if outputs::kind_of(names::status(name, true)) == refusal::NO_REASON {
-        let fd = names::open_read(name);
-        if fd >= 0 {
-            libc::close(fd);
+fn not_opened(rt: &impl Files, name: Text, error: usize) -> Refusal {
+    if outputs::kind_of(names::status(rt, name, true)) == refusal::NO_REASON {
+        if let Ok(_) = names::open_read(rt, name) {
             return refusal::about(Opt::Drawer, refusal::NOT_WRITTEN, error);
         }
     }
@@ -236,50 +236,53 @@ fn not_opened(name: Text, error: usize) -> Refusal {
 }
 
 // The drawer in an open file. What has no places, as a pipe, is none, and reading it could take forever.
-pub(crate) fn kept_in(fd: i32) -> Loaded {
+pub(crate) fn kept_in<F: Read + Seek>(from: &mut F) -> Loaded {
     let mut file = [0u8; 45];
-    let n = read_start(fd, &mut file);
+    let n = read_start(from, &mut file);
     drawer_file::load(first(&file, n))
 }
 
-fn read_start(fd: i32, room: &mut [u8]) -> usize {
-    if libc::lseek(fd, 0, libc::SEEK_END) < 0 {
+fn read_start<F: Read + Seek>(from: &mut F, room: &mut [u8]) -> usize {
+    if from.seek(SeekFrom::End(0)).is_err() || from.seek(SeekFrom::Start(0)).is_err() {
         return 0;
     }
-    io::count(libc::pread(fd, room, 0), room)
+    match from.read(room) {
+        Ok(n) => n,
+        Err(_) => 0,
+    }
 }
 
 // The name of the folder that keeps the others out, and that of the next state in it, which nobody else can reach.
-pub(crate) fn beside(o: Options) -> Text {
-    names::beside(options::word_of(o, Opt::Drawer), b".next")
+pub(crate) fn beside(rt: &impl Env, o: Options) -> Text {
+    names::beside(options::word_of(rt, o, Opt::Drawer), b".next")
 }
 
-fn state(o: Options) -> Text {
-    text::and(beside(o), b"/state")
+fn state(rt: &impl Env, o: Options) -> Text {
+    text::and(beside(rt, o), b"/state")
 }
 
 // Puts the next state in the drawer's place, with its rights, and waits until that is on the disk.
-fn keep(o: Options, fd: i32, next: Drawer) -> Refusal {
-    let name = options::word_of(o, Opt::Drawer);
+fn keep<R: System>(rt: &R, o: Options, file: R::File, next: Drawer) -> Refusal {
+    let name = options::word_of(rt, o, Opt::Drawer);
+    let mut to = file;
     let stored = drawer_file::store(next);
-    let file = stored.bytes;
-    let r = outputs::filled(o, Opt::Drawer, fd, outputs::replacing(name), &file);
-    let s = outputs::put_in_place(r, Opt::Drawer, true, state(o), name);
+    let rights = names::status(rt, name, false);
+    let r = outputs::filled(rt, o, Opt::Drawer, &mut to, rights, &stored.bytes);
+    let s = outputs::put_in_place(rt, r, Opt::Drawer, true, state(rt, o), name);
     if s.number != 0 {
-        let_go(o, fd);
+        let_go(rt, o, to);
         return s;
     }
-    libc::close(fd);
-    names::rmdir(beside(o));
-    let e = names::synced(name);
-    if e == 0 {
-        return refusal::none();
+    drop(to);
+    names::rmdir(rt, beside(rt, o));
+    match names::synced(rt, name) {
+        Ok(()) => refusal::none(),
+        Err(e) => refusal::by_system(Opt::Drawer, refusal::NOT_WRITTEN, e),
     }
-    refusal::about(Opt::Drawer, refusal::NOT_WRITTEN, e)
 }
 
-fn let_go(o: Options, fd: i32) {
-    libc::close(fd);
-    names::unlink(state(o));
-    names::rmdir(beside(o));
+fn let_go<R: System>(rt: &R, o: Options, file: R::File) {
+    drop(file);
+    names::unlink(rt, state(rt, o));
+    names::rmdir(rt, beside(rt, o));
 }

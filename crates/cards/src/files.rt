@@ -1,15 +1,16 @@
 // What a name leads to, as the system tells it.
-ghost use Rattle.libc.specs.Io.{Ended};
-
-use crate::put;
 use crate::text::Text;
-use libc::types::{stat, timespec};
-use words::first;
+use crate::{names, refusal};
+use std::fs::{DirBuilder, Metadata, OpenFile, Permissions};
+use std::io::{Error, Result};
+use std::os::unix::fs::{DirBuilderExt, MetadataExt, PermissionsExt};
+use std::rt::Files;
 
-// Not good where the system does not say.
-#[derive(Drop)]
+// Not good where the system does not say; then it has the system's error number, and 0 of all else.
+#[derive(Clone, Copy)]
 pub(crate) struct Status {
     pub good: bool,
+    pub error: usize,
     pub device: u64,
     pub inode: u64,
     pub mode: u32,
@@ -19,74 +20,51 @@ pub(crate) struct Status {
     pub empty: bool,
 }
 
-// What the system answers, and what it fills in.
-#[derive(Drop)]
-struct Answer {
-    done: i32,
-    of: stat,
-}
-
 // What a name leads to; a symbolic link itself, if it is not to be followed.
-pub(crate) fn named(name: Text, follow: bool) -> Status {
-    if is_too_long(name) {
-        return unknown();
+pub(crate) fn named(rt: &impl Files, name: Text, follow: bool) -> Status {
+    match told(rt, name, follow) {
+        Ok(s) => status_of(&s),
+        Err(e) => unknown_for(refusal::error(e)),
     }
-    let path = path_of(name);
-    status_of(told(&path, follow, blank()))
 }
 
-// Makes a folder that nobody else can use. Answers 0, or -1, as where the name is taken.
-pub(crate) fn make_private(name: Text) -> i32 {
-    if is_too_long(name) {
-        return -1;
-    }
-    let path = path_of(name);
-    let done = libc::mkdir(&path, 448); // 0700
-    if done == 0 {
-        keep_private(os::open_read(first(&name.bytes, name.len)));
-    }
-    done
+// Makes a folder that nobody else can use. An error, as where the name is taken, leaves none.
+pub(crate) fn make_private(rt: &impl Files, name: Text) -> Result<()> {
+    let path = names::path(&name)?;
+    DirBuilder::new().mode(PRIVATE).create(rt, path)?;
+    keep_private(names::open_read(rt, name));
+    Ok(())
 }
+
+// The rights of a folder that nobody else can use.
+const PRIVATE: u32 = 0o700;
 
 // The umask may have left too little.
-fn keep_private(fd: i32) {
-    if fd >= 0 {
-        libc::fchmod(fd, 448);
-        libc::close(fd);
+fn keep_private<F: OpenFile + Drop>(folder: Result<F>) {
+    if let Ok(f) = folder {
+        let _ = f.set_permissions(Permissions::from_mode(PRIVATE));
     }
 }
 
-// No name of 4096 bytes or more leads to anything, and none is cut: os sets the error number.
-fn is_too_long(name: Text) -> bool {
-    name.len > 4095 && os::open_read(first(&name.bytes, name.len)) < 0
-}
-
-// A name as C takes it, ended by a 0.
-fn path_of(name: Text) -> [u8; 4096]
-    ensures { Ended result }
-{
-    let mut path = io::buffer();
-    put(&mut path, 0, first(&name.bytes, name.len));
-    path[4095] = 0;
-    path
-}
-
-// Asks the system. It is the one function that lends a struct, so its proof is walked by hand.
-fn told(path: &[u8; 4096], follow: bool, mut s: stat) -> Answer
-    requires { Ended path.now }
-{
-    let done = if follow {
-        libc::stat(path, &mut s)
+// Asks the system.
+fn told(rt: &impl Files, name: Text, follow: bool) -> Result<Metadata> {
+    let path = names::path(&name)?;
+    if follow {
+        rt.metadata(path)
     } else {
-        libc::lstat(path, &mut s)
-    };
-    Answer { done: done, of: s }
+        rt.symlink_metadata(path)
+    }
 }
 
 // Of nothing.
 pub(crate) fn unknown() -> Status {
+    unknown_for(0)
+}
+
+fn unknown_for(error: usize) -> Status {
     Status {
         good: false,
+        error: error,
         device: 0,
         inode: 0,
         mode: 0,
@@ -97,41 +75,16 @@ pub(crate) fn unknown() -> Status {
     }
 }
 
-fn status_of(a: Answer) -> Status {
-    let s = a.of;
+fn status_of(s: &Metadata) -> Status {
     Status {
-        good: a.done == 0,
-        device: s.st_dev,
-        inode: s.st_ino,
-        mode: s.st_mode,
-        owner: s.st_uid,
-        group: s.st_gid,
-        links: s.st_nlink,
-        empty: s.st_size == 0,
-    }
-}
-
-// A struct for the system to fill.
-fn blank() -> stat {
-    let t = timespec {
-        tv_sec: 0,
-        tv_nsec: 0,
-    };
-    stat {
-        st_dev: 0,
-        st_ino: 0,
-        st_nlink: 0,
-        st_mode: 0,
-        st_uid: 0,
-        st_gid: 0,
-        __pad: 0,
-        st_rdev: 0,
-        st_size: 0,
-        st_blksize: 0,
-        st_blocks: 0,
-        st_atim: t,
-        st_mtim: t,
-        st_ctim: t,
-        __unused: [0i64; 3],
+        good: true,
+        error: 0,
+        device: s.dev(),
+        inode: s.ino(),
+        mode: s.mode(),
+        owner: s.uid(),
+        group: s.gid(),
+        links: s.nlink(),
+        empty: s.len() == 0,
     }
 }

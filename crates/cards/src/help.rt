@@ -1,8 +1,9 @@
 // help: what each command does, with examples that work as they stand, after those of `cards help`.
 use crate::commands::Command;
 use crate::refusal::Refusal;
-use crate::{commands, options, outputs};
-use libc::{STDERR_FILENO, STDOUT_FILENO};
+use crate::text::Text;
+use crate::{STANDARD_ERROR, commands, options, outputs, text};
+use std::io::Print;
 use words::first;
 
 const VERSION: [u8; 12] = *b"cards 0.5.0
@@ -155,18 +156,19 @@ const PACK_EXAMPLES: [u8; 155] = *b"    printf '\\001\\003cat\\000\\001\\000' | 
 ";
 
 // `cards help COMMAND`, or the overview.
-pub(crate) fn of(command: Command) -> Refusal {
-    outputs::printed(written(command))
+pub(crate) fn of(rt: &impl Print, command: Command) -> Refusal {
+    outputs::said(rt, page_of(command))
 }
 
 // `cards` alone is refused, but whoever types it wants to know what there is.
 pub(crate) fn without_command(words: usize) {
     if words < 2 {
-        overview(STDERR_FILENO);
+        let t = overview();
+        io::write_all(STANDARD_ERROR, first(&t.bytes, t.len));
     }
 }
 
-fn written(command: Command) -> bool {
+fn page_of(command: Command) -> Text {
     match command {
         Command::Seal => page(command, &SEAL, &SEAL_EXAMPLES),
         Command::Open => page(command, &OPEN, &OPEN_EXAMPLES),
@@ -180,22 +182,17 @@ fn written(command: Command) -> bool {
         Command::Book => page(command, &BOOK, &BOOK_EXAMPLES),
         Command::Classes => page(command, &CLASSES, &CLASSES_EXAMPLES),
         Command::Pack => page(command, &PACK, &PACK_EXAMPLES),
-        Command::Help => overview(STDOUT_FILENO),
-        Command::Version => io::write_all(STDOUT_FILENO, &VERSION),
+        Command::Help => overview(),
+        Command::Version => text::of(&VERSION),
     }
 }
 
-fn overview(fd: i32) -> bool {
-    let commands = commands::lines();
-    io::write_all(fd, &OVERVIEW)
-        && io::write_all(fd, first(&commands.bytes, commands.len))
-        && io::write_all(fd, &STATUS)
+fn overview() -> Text {
+    let t = text::and_text(text::of(&OVERVIEW), commands::lines());
+    text::and(t, &STATUS)
 }
 
-fn page(command: Command, about: &[u8], examples: &[u8]) -> bool {
-    let options = options::lines(command);
-    io::write_all(STDOUT_FILENO, about)
-        && io::write_all(STDOUT_FILENO, first(&options.bytes, options.len))
-        && io::write_all(STDOUT_FILENO, &TAIL)
-        && io::write_all(STDOUT_FILENO, examples)
+fn page(command: Command, about: &[u8], examples: &[u8]) -> Text {
+    let t = text::and_text(text::of(about), options::lines(command));
+    text::and(text::and(t, &TAIL), examples)
 }

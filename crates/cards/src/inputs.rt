@@ -1,21 +1,23 @@
 // Inputs: files and standard input, raw or in hex, and what stands on the command line itself.
 use crate::options::{Opt, Options};
 use crate::refusal::Refusal;
-use crate::{names, options, refusal};
+use crate::system::System;
+use crate::{STANDARD_ERROR, names, options, refusal};
 use decimal::Decimal;
 use hexadecimal::Hex;
-use libc::{STDERR_FILENO, STDIN_FILENO};
+use std::io::{Read, Result};
+use std::rt::Env;
 use words::first;
 
 // What was refused, or how many bytes were read: as many as the room has, where there are more.
-#[derive(Drop)]
+#[derive(Clone, Copy)]
 pub(crate) struct Got {
     pub refusal: Refusal,
     pub len: usize,
 }
 
 // What a file gave: what is wrong with it as hex, or the error number, or 0; and how many bytes.
-#[derive(Drop)]
+#[derive(Clone, Copy)]
 struct Taken {
     error: usize,
     not_hex: bool,
@@ -34,38 +36,43 @@ pub(crate) fn refused(r: Refusal) -> Got {
 }
 
 // The option's word as a number.
-pub(crate) fn number(o: Options, option: Opt) -> Decimal {
-    let w = options::word_of(o, option);
+pub(crate) fn number(rt: &impl Env, o: Options, option: Opt) -> Decimal {
+    let w = options::word_of(rt, o, option);
     decimal::number(first(&w.bytes, w.len))
 }
 
 // Reads the input that the option names, or standard input. Where something was refused before, that is handed on and
 // nothing is read.
-pub(crate) fn read(before: Refusal, o: Options, option: Opt, room: &mut [u8]) -> Got {
+pub(crate) fn read(
+    rt: &impl System,
+    before: Refusal,
+    o: Options,
+    option: Opt,
+    room: &mut [u8],
+) -> Got {
     if before.number != 0 {
         return refused(before);
     }
-    if !options::given(o, option) || options::is_dash(o, option) {
-        return read_standard(o, option, room);
+    if !options::given(o, option) || options::is_dash(rt, o, option) {
+        return read_standard(rt, o, option, room);
     }
-    let fd = names::open_read(options::word_of(o, option));
-    if fd < 0 {
-        return refused(refusal::by_system(option, refusal::NOT_READ));
-    }
-    let t = taken_from(o, option, fd, room);
-    libc::close(fd);
+    let mut file = match names::open_read(rt, options::word_of(rt, o, option)) {
+        Ok(file) => file,
+        Err(e) => return refused(refusal::by_system(option, refusal::NOT_READ, e)),
+    };
+    let t = taken_from(o, option, &mut file, room);
     judged(option, t)
 }
 
 // Whoever sits at a terminal is told that it is read, and how that ends.
-fn read_standard(o: Options, option: Opt, room: &mut [u8]) -> Got {
-    if libc::isatty(STDIN_FILENO) == 1 {
+fn read_standard(rt: &impl System, o: Options, option: Opt, room: &mut [u8]) -> Got {
+    if rt.reads_terminal() {
         io::write_all(
-            STDERR_FILENO,
+            STANDARD_ERROR,
             b"cards: reading from the terminal: Ctrl-D ends it\n",
         );
     }
-    let t = taken_from(o, option, STDIN_FILENO, room);
+    let t = taken_from(o, option, &mut rt.reader(), room);
     if t.error == refusal::A_DIRECTORY {
         return refused(refusal::about(option, refusal::NOT_READ, refusal::CLOSED));
     }
@@ -74,6 +81,7 @@ fn read_standard(o: Options, option: Opt, room: &mut [u8]) -> Got {
 
 // The same for an option that may be left out: the room's first bytes, as they are, then stand for the input.
 pub(crate) fn read_given(
+    rt: &impl System,
     before: Refusal,
     o: Options,
     option: Opt,
@@ -81,7 +89,7 @@ pub(crate) fn read_given(
     room: &mut [u8],
 ) -> Got {
     if options::given(o, option) {
-        return read(before, o, option, room);
+        return read(rt, before, o, option, room);
     }
     Got {
         refusal: before,
@@ -99,32 +107,40 @@ fn judged(option: Opt, t: Taken) -> Got {
     found(t.len)
 }
 
-fn taken_from(o: Options, option: Opt, fd: i32, room: &mut [u8]) -> Taken {
+fn taken_from<R: Read>(o: Options, option: Opt, from: &mut R, room: &mut [u8]) -> Taken {
     if options::in_hex(o, option) {
-        return hex_from(fd, room);
+        return hex_from(from, room);
     }
-    raw_from(fd, room)
+    raw_from(from, room)
 }
 
-fn raw_from(fd: i32, room: &mut [u8]) -> Taken {
+fn raw_from<R: Read>(from: &mut R, room: &mut [u8]) -> Taken {
     let mut len = 0;
     while len < room.len() {
-        let got = libc::read(fd, &mut room[len..]);
-        let more = io::count(got, &room[len..]);
+        let got = from.read(&mut room[len..]);
+        let more = count(got);
         if more == 0 {
             return ended(got, false, len);
         }
         len += more;
     }
-    ended(0, false, len)
+    gave(refusal::NO_REASON, false, len)
+}
+
+// How many bytes a read gave.
+fn count(got: Result<usize>) -> usize {
+    match got {
+        Ok(n) => n,
+        Err(_) => 0,
+    }
 }
 
 // The end of the input, or the error that a read answered.
-fn ended(got: isize, not_hex: bool, len: usize) -> Taken {
-    if got < 0 {
-        return gave(refusal::error(), false, len);
+fn ended(got: Result<usize>, not_hex: bool, len: usize) -> Taken {
+    match got {
+        Ok(_) => gave(refusal::NO_REASON, not_hex, len),
+        Err(e) => gave(refusal::error(e), false, len),
     }
-    gave(refusal::NO_REASON, not_hex, len)
 }
 
 fn gave(error: usize, not_hex: bool, len: usize) -> Taken {
@@ -137,13 +153,13 @@ fn gave(error: usize, not_hex: bool, len: usize) -> Taken {
 
 // Reads until the first byte that is not hex, or until the room is full. Blanks fill no room, so the characters are
 // counted too.
-fn hex_from(fd: i32, room: &mut [u8]) -> Taken {
+fn hex_from<R: Read>(from: &mut R, room: &mut [u8]) -> Taken {
     let mut h = hexadecimal::begin();
     let mut chunk = io::large_buffer();
     let mut left: usize = 16777217;
     while left > 0 {
-        let got = libc::read(fd, &mut chunk);
-        let n = io::count(got, &chunk);
+        let got = from.read(&mut chunk);
+        let n = count(got);
         if n == 0 {
             return ended(got, !h.good || h.half, h.len);
         }

@@ -1,12 +1,14 @@
 // book and classes: a key book is made of entries, and its classes are listed.
 use crate::options::{Opt, Options};
 use crate::refusal::Refusal;
+use crate::system::System;
 use crate::{inputs, outputs, put, refusal, rooms, text};
+use std::io::Print;
 use words::first;
 
 // How far the entries have been read: where, how many there are, the least class that may come next, whether that was
 // all, and what is wrong with the next one.
-#[derive(Drop)]
+#[derive(Clone, Copy)]
 struct Binding {
     at: usize,
     count: usize,
@@ -16,20 +18,26 @@ struct Binding {
 }
 
 // A word of the entries: where it begins and ends.
-#[derive(Drop)]
+#[derive(Clone, Copy)]
 struct Word {
     from: usize,
     to: usize,
 }
 
-pub(crate) fn book(o: Options) -> Refusal {
+pub(crate) fn book(rt: &impl System, o: Options) -> Refusal {
     let mut entries = rooms::text();
     let mut room = rooms::book();
-    let t = inputs::read(refusal::none(), o, Opt::In, &mut entries);
-    bind(t.refusal, o, first(&entries, t.len), &mut room)
+    let t = inputs::read(rt, refusal::none(), o, Opt::In, &mut entries);
+    bind(rt, t.refusal, o, first(&entries, t.len), &mut room)
 }
 
-fn bind(before: Refusal, o: Options, entries: &[u8], room: &mut [u8]) -> Refusal {
+fn bind(
+    rt: &impl System,
+    before: Refusal,
+    o: Options,
+    entries: &[u8],
+    room: &mut [u8],
+) -> Refusal {
     if before.number != 0 {
         return before;
     }
@@ -44,7 +52,7 @@ fn bind(before: Refusal, o: Options, entries: &[u8], room: &mut [u8]) -> Refusal
         return refusal::of_entry(0, refusal::NO_ENTRY);
     }
     put(room, 0, &two_bytes(b.count));
-    outputs::finish(refusal::none(), o, true, first(room, place_of(b.count)))
+    outputs::finish(rt, refusal::none(), o, true, first(room, place_of(b.count)))
 }
 
 // Binds entry by entry; each has two bytes at least.
@@ -167,25 +175,25 @@ fn is_blank(b: u8) -> bool {
     b == b' ' || b == b'\t' || b == b'\n' || b == b'\r'
 }
 
-pub(crate) fn classes(o: Options) -> Refusal {
+pub(crate) fn classes(rt: &impl System, o: Options) -> Refusal {
     let mut room = rooms::book();
-    let b = inputs::read(refusal::none(), o, Opt::Book, &mut room);
+    let b = inputs::read(rt, refusal::none(), o, Opt::Book, &mut room);
     let r = b.refusal;
     if r.number != 0 {
         return r;
     }
-    list(first(&room, b.len))
+    list(rt, first(&room, b.len))
 }
 
 // Whether a book is well formed does not hang on the class that is looked for.
-fn list(book: &[u8]) -> Refusal {
+fn list(rt: &impl Print, book: &[u8]) -> Refusal {
     if books::number(book, &[0, 0], 0) == 10 {
         return refusal::about(Opt::Book, 10, refusal::NO_REASON);
     }
     let count = words::two(book, 0) as usize;
     let mut i = 0;
     while i < count {
-        let r = outputs::said(text::number(b"", words::two(book, place_of(i)) as u64, b"\n"));
+        let r = outputs::said(rt, text::number(b"", words::two(book, place_of(i)) as u64, b"\n"));
         if r.number != 0 {
             return r;
         }

@@ -1,11 +1,16 @@
 // The office's tool: docs/cards.1 says what it does. It is thin: what matters is promised by the libraries below it,
-// and here inputs are read, outputs written and refusals put into words. office/main.c makes it a program with an exit
-// status, the crate cards_run one that the gate can run.
+// and here inputs are read, outputs written and refusals put into words. the crate office hands its number on, and
+// cards_run is the program.
+#![tactic(auto)]
+
 ghost use Rattle.std.specs.Prelude.{◌<◌};
 
 use commands::Command;
 use parse::Parsed;
 use refusal::Refusal;
+use std::fs;
+use std::io::IsTerminal;
+pub use system::System;
 
 mod commands; // commands.rt: the commands' table
 mod digests; // digests.rt: digest
@@ -25,75 +30,79 @@ mod rooms; // rooms.rt: the largest arrays
 mod rules; // rules.rt: which options go together
 mod sealing; // sealing.rt: seal, open and check
 mod shows; // shows.rt: show
+mod system; // system.rt: what is asked of the system
 mod tables; // tables.rt: sentences by their numbers
 mod text; // text.rt: names and lines by value
 mod wide; // wide.rt: encipher and decipher
 
 // Does what the command line asks for. Answers 0 if that is done, or else the refusal's number, as an exit status: it
-// is below 256, so that none but 0 looks like 0.
-pub fn run() -> u32
+// is below 256, so that none but 0 looks like 0. out is standard output.
+pub fn run<R: System, T: IsTerminal>(rt: &R, out: &T) -> u32
     ensures { result < 256 }
 {
-    fill_closed();
-    let p = parse::command_line();
-    let r = outcome(p);
-    refusal::last_line(r, p);
+    fill_closed(rt);
+    let p = parse::command_line(rt);
+    let r = outcome(rt, out, p);
+    refusal::last_line(rt, r, p);
     refusal::status(r.number)
 }
 
 // A file that is opened takes the lowest number that is free. So that none takes the place of a standard stream that
 // is closed, that place is filled with what can neither be read nor written.
-fn fill_closed() {
+fn fill_closed<R: System>(rt: &R) {
     let mut i: usize = 0;
     while i < 3 {
-        let fd = os::open_read(b"/");
-        if fd < 0 {
-            return;
-        }
-        if fd > 2 {
-            libc::close(fd);
-            return;
+        match fs::open(rt, "/") {
+            Ok(file) => {
+                if !rt.kept_as_standard(file) {
+                    return;
+                }
+            }
+            Err(_) => return,
         }
         i += 1;
     }
 }
 
-fn outcome(p: Parsed) -> Refusal {
+fn outcome<R: System, T: IsTerminal>(rt: &R, out: &T, p: Parsed) -> Refusal {
     let command = p.command;
     let bad = p.bad;
     if bad.number != 0 {
-        help::without_command(os::arg_count());
+        help::without_command(options::word_count(rt));
         return bad;
     }
     if p.help {
-        return help::of(command);
+        return help::of(rt, command);
     }
-    let r = rules::judged(command, p.options);
+    let r = rules::judged(rt, out, command, p.options);
     if r.number != 0 {
         return r;
     }
-    done_by(p)
+    done_by(rt, p)
 }
 
-fn done_by(p: Parsed) -> Refusal {
+fn done_by(rt: &impl System, p: Parsed) -> Refusal {
     let command = p.command;
     let o = p.options;
     match command {
-        Command::Seal => sealing::seal(o),
-        Command::Open => sealing::open(o, true),
-        Command::Check => sealing::open(o, false),
-        Command::Encipher => wide::encipher(o),
-        Command::Decipher => wide::decipher(o),
-        Command::Digest => digests::digest(o),
-        Command::Start => drawers::start(o),
-        Command::Draw => drawers::draw(o),
-        Command::Show => shows::show(o),
-        Command::Book => key_books::book(o),
-        Command::Classes => key_books::classes(o),
-        Command::Pack => packs::pack(o),
-        _ => help::of(command),
+        Command::Seal => sealing::seal(rt, o),
+        Command::Open => sealing::open(rt, o, true),
+        Command::Check => sealing::open(rt, o, false),
+        Command::Encipher => wide::encipher(rt, o),
+        Command::Decipher => wide::decipher(rt, o),
+        Command::Digest => digests::digest(rt, o),
+        Command::Start => drawers::start(rt, o),
+        Command::Draw => drawers::draw(rt, o),
+        Command::Show => shows::show(rt, o),
+        Command::Book => key_books::book(rt, o),
+        Command::Classes => key_books::classes(rt, o),
+        Command::Pack => packs::pack(rt, o),
+        _ => help::of(rt, command),
     }
 }
+
+// The number of standard error, which takes bytes that are no text.
+pub(crate) const STANDARD_ERROR: i32 = 2;
 
 // The first n bytes of s, or all.
 fn first_mut(s: &mut [u8], n: usize) -> &mut [u8] {

@@ -4,8 +4,10 @@ ghost use Rattle.std.specs.Prelude.{◌<◌};
 use crate::commands::Command;
 use crate::text::Text;
 use crate::{commands, tables, text};
+use std::env::FillError;
+use std::rt::Env;
 
-#[derive(Drop)]
+#[derive(Clone, Copy)]
 pub(crate) enum Opt {
     Key,
     Book,
@@ -27,7 +29,7 @@ pub(crate) enum Opt {
 
 // Names and what stands behind them are filled with blanks. Each command has a column in `taken`: the option
 // must be given (!), may be given (x), or is not taken (.).
-#[derive(Drop)]
+#[derive(Clone, Copy)]
 struct OptionRow {
     option: Opt,
     name: [u8; 9],
@@ -174,7 +176,7 @@ const SENTENCES: [u8; 765] =
 
 // For each option the word of the command line that has what is given, 0 if it is not given, where in that word it
 // begins, and whether it is in hex.
-#[derive(Drop)]
+#[derive(Clone, Copy)]
 pub(crate) struct Options {
     pub at: [usize; 16],
     pub from: [usize; 16],
@@ -255,22 +257,42 @@ pub(crate) fn printed(o: Options) -> Options {
     }
 }
 
-// The word at this place of the command line, none at 0.
-pub(crate) fn word(place: usize) -> Text {
+// How many words the command line has, the tool's name among them.
+pub(crate) fn word_count(rt: &impl Env) -> usize {
+    let mut n: usize = 0;
+    while n < usize::MAX {
+        if let Err(FillError::NotPresent) = rt.arg(n, &mut []) {
+            return n;
+        }
+        n += 1;
+    }
+    n
+}
+
+// The word at this place of the command line, none at 0 and where it is too long.
+pub(crate) fn word(rt: &impl Env, place: usize) -> Text {
+    match whole_word(rt, place) {
+        Ok(w) => w,
+        Err(_) => text::of(b""),
+    }
+}
+
+// The same, or why there is none.
+pub(crate) fn whole_word(rt: &impl Env, place: usize) -> Result<Text, FillError> {
     if place == 0 {
-        return text::of(b"");
+        return Ok(text::of(b""));
     }
     let mut w = io::buffer();
-    let n = os::arg(place, &mut w);
-    text::of(&w[..n])
+    let n = rt.arg(place, &mut w)?;
+    Ok(text::of(&w[..n]))
 }
 
 // The option's word, or what stands behind its = sign.
-pub(crate) fn word_of(o: Options, option: Opt) -> Text {
+pub(crate) fn word_of(rt: &impl Env, o: Options, option: Opt) -> Text {
     let row = place(option);
     let at = o.at;
     let from = o.from;
-    let w = word(at[row]);
+    let w = word(rt, at[row]);
     text::of(text::part(&w.bytes, from[row], w.len))
 }
 
@@ -280,8 +302,8 @@ pub(crate) fn is_stream(option: Opt) -> bool {
 }
 
 // Whether the option's word is `-`, which stands for a standard stream.
-pub(crate) fn is_dash(o: Options, option: Opt) -> bool {
-    is_stream(option) && text::is(word_of(o, option), b"-")
+pub(crate) fn is_dash(rt: &impl Env, o: Options, option: Opt) -> bool {
+    is_stream(option) && text::is(word_of(rt, o, option), b"-")
 }
 
 // The one function that has the table in view, since each that has it costs its check.

@@ -5,93 +5,114 @@ use crate::files::Status;
 use crate::names::Scratch;
 use crate::options::{Opt, Options};
 use crate::refusal::Refusal;
+use crate::system::System;
 use crate::text::Text;
 use crate::{drawers, files, names, options, refusal};
-use libc::STDOUT_FILENO;
+use std::fs::{OpenFile, Permissions};
+use std::io::{ErrorKind, Print, Result, Write};
+use std::os::unix::fs::PermissionsExt;
+use std::rt::{Env, Files};
 
-// What was refused, or what the output is written to: whether a file is replaced, whose rights are kept, and the file
-// that takes its place.
+// What was refused, or what the output is written to.
 #[derive(Drop)]
-pub(crate) struct Target {
-    pub refusal: Refusal,
+pub(crate) enum Target<F> {
+    Refused(Refusal),
+    Standard,
+    File(Made<F>),
+}
+
+// What a file is made from: whether one is replaced, whose rights are kept, and the file that takes its place.
+#[derive(Drop)]
+pub(crate) struct Made<F> {
     pub there: bool,
     pub rights: Status,
-    pub scratch: Scratch,
+    pub scratch: Scratch<F>,
 }
 
 // Sees that the output can be written, and writes the bytes; a private one nobody else can read. Where something was
 // refused before, that is handed on and nothing is done, here and in claim and write.
-pub(crate) fn finish(before: Refusal, o: Options, private: bool, bytes: &[u8]) -> Refusal {
-    write(claim(before, o, private), o, bytes)
+pub(crate) fn finish(
+    rt: &impl System,
+    before: Refusal,
+    o: Options,
+    private: bool,
+    bytes: &[u8],
+) -> Refusal {
+    write(rt, claim(rt, before, o, private), o, bytes)
 }
 
-fn is_standard(o: Options) -> bool {
-    !options::given(o, Opt::Out) || options::is_dash(o, Opt::Out)
+fn is_standard(rt: &impl Env, o: Options) -> bool {
+    !options::given(o, Opt::Out) || options::is_dash(rt, o, Opt::Out)
 }
 
 // Makes the file that is to take the output's place, unless that is there and --force does not ask for it.
-pub(crate) fn claim(before: Refusal, o: Options, private: bool) -> Target {
-    if before.number != 0 || is_standard(o) {
-        return no_file(before);
+pub(crate) fn claim<R: System>(
+    rt: &R,
+    before: Refusal,
+    o: Options,
+    private: bool,
+) -> Target<R::File> {
+    if before.number != 0 {
+        return Target::Refused(before);
     }
-    claim_name(o, Opt::Out, private)
+    if is_standard(rt, o) {
+        return Target::Standard;
+    }
+    match claim_name(rt, o, Opt::Out, private) {
+        Ok(made) => Target::File(made),
+        Err(r) => Target::Refused(r),
+    }
 }
 
-fn no_file(r: Refusal) -> Target {
-    Target {
-        refusal: r,
-        there: false,
-        rights: files::unknown(),
-        scratch: names::no_scratch(),
-    }
-}
-
-pub(crate) fn claim_name(o: Options, option: Opt, private: bool) -> Target {
-    let name = options::word_of(o, option);
-    let s = names::status(name, false);
+pub(crate) fn claim_name<R: System>(
+    rt: &R,
+    o: Options,
+    option: Opt,
+    private: bool,
+) -> std::result::Result<Made<R::File>, Refusal> {
+    let name = options::word_of(rt, o, option);
+    let s = names::status(rt, name, false);
     if s.good {
-        return over(o, option, name, private, s);
+        return over(rt, o, option, name, private, s);
     }
-    if name.len == 0 || os::errno() != libc::ENOENT {
-        return no_file(refusal::by_system(option, refusal::NOT_WRITTEN));
+    if name.len == 0 || s.error != refusal::NO_SUCH_FILE {
+        return Err(refusal::about(option, refusal::NOT_WRITTEN, s.error));
     }
-    with_scratch(option, name, private, false, s)
+    with_scratch(rt, option, name, private, false, s)
 }
 
-fn with_scratch(option: Opt, name: Text, private: bool, there: bool, rights: Status) -> Target {
-    let scratch = names::new_scratch(name, private);
-    Target {
-        refusal: not_made(option, scratch.fd),
-        there: there,
-        rights: rights,
-        scratch: scratch,
+fn with_scratch<R: System>(
+    rt: &R,
+    option: Opt,
+    name: Text,
+    private: bool,
+    there: bool,
+    rights: Status,
+) -> std::result::Result<Made<R::File>, Refusal> {
+    match names::new_scratch(rt, name, private) {
+        Ok(scratch) => Ok(Made {
+            there: there,
+            rights: rights,
+            scratch: scratch,
+        }),
+        Err(e) => Err(refusal::by_system(option, refusal::NOT_WRITTEN, e)),
     }
-}
-
-// A file that is replaced by one that is there already.
-pub(crate) fn replacing(name: Text) -> Target {
-    Target {
-        refusal: refusal::none(),
-        there: true,
-        rights: names::status(name, false),
-        scratch: names::no_scratch(),
-    }
-}
-
-fn not_made(option: Opt, fd: i32) -> Refusal {
-    if fd < 0 {
-        return refusal::by_system(option, refusal::NOT_WRITTEN);
-    }
-    refusal::none()
 }
 
 // Over what is there. An empty file may be what a killed run left, and gives no rights to keys.
-fn over(o: Options, option: Opt, name: Text, private: bool, s: Status) -> Target {
-    let why = kept_for(name, s);
+fn over<R: System>(
+    rt: &R,
+    o: Options,
+    option: Opt,
+    name: Text,
+    private: bool,
+    s: Status,
+) -> std::result::Result<Made<R::File>, Refusal> {
+    let why = kept_for(rt, name, s);
     let replaceable = why == refusal::NO_REASON && options::is_stream(option);
     if !options::given(o, Opt::Force) {
-        let force_helps = replaceable && !is_read(o, name);
-        return no_file(exists(option, force_helps));
+        let force_helps = replaceable && !is_read(rt, o, name);
+        return Err(exists(option, force_helps));
     }
     if replaceable {
         let rights = if private && s.empty {
@@ -99,9 +120,9 @@ fn over(o: Options, option: Opt, name: Text, private: bool, s: Status) -> Target
         } else {
             s
         };
-        return with_scratch(option, name, true, true, rights);
+        return with_scratch(rt, option, name, true, true, rights);
     }
-    no_file(refusal::about(option, refusal::NOT_WRITTEN, why))
+    Err(refusal::about(option, refusal::NOT_WRITTEN, why))
 }
 
 fn exists(option: Opt, force_helps: bool) -> Refusal {
@@ -112,12 +133,12 @@ fn exists(option: Opt, force_helps: bool) -> Refusal {
 }
 
 // Whether the name leads to a file that is read as key, book, nonce, iv or data: the rows before --in.
-pub(crate) fn is_read(o: Options, name: Text) -> bool {
+pub(crate) fn is_read<R: Env + Files>(rt: &R, o: Options, name: Text) -> bool {
     let end = options::place(Opt::In);
     let mut row = 0;
     while row < end {
         let option = options::at(row);
-        if options::given(o, option) && names::same_file(name, source(o, option)) {
+        if options::given(o, option) && names::same_file(rt, name, source(rt, o, option)) {
             return true;
         }
         row += 1;
@@ -126,25 +147,24 @@ pub(crate) fn is_read(o: Options, name: Text) -> bool {
 }
 
 // The name of what is read: that of standard input leads to what stands for it.
-fn source(o: Options, option: Opt) -> Text {
-    if options::is_dash(o, option) {
+fn source(rt: &impl Env, o: Options, option: Opt) -> Text {
+    if options::is_dash(rt, o, option) {
         return crate::text::of(b"/dev/stdin");
     }
-    options::word_of(o, option)
+    options::word_of(rt, o, option)
 }
 
 // Why a file is not replaced: it is none, it cannot be written, or it is a drawer, whose numbers could be drawn again.
-fn kept_for(name: Text, s: Status) -> usize {
+fn kept_for(rt: &impl Files, name: Text, s: Status) -> usize {
     let kind = kind_of(s);
     if kind != refusal::NO_REASON {
         return kind;
     }
-    let fd = names::open_update(name);
-    if fd < 0 {
-        return refusal::error();
-    }
-    let k = drawers::kept_in(fd);
-    libc::close(fd);
+    let mut file = match names::open_update(rt, name) {
+        Ok(file) => file,
+        Err(e) => return refusal::error(e),
+    };
+    let k = drawers::kept_in(&mut file);
     if k.number == 0 {
         return refusal::DRAWER_FILE;
     }
@@ -153,138 +173,168 @@ fn kept_for(name: Text, s: Status) -> usize {
 
 // What a file is that is not a regular one.
 pub(crate) fn kind_of(s: Status) -> usize {
-    match s.mode & libc::S_IFMT {
-        libc::S_IFREG => refusal::NO_REASON,
-        libc::S_IFDIR => refusal::A_DIRECTORY,
-        libc::S_IFLNK => refusal::LINK,
+    match s.mode & 0o170000 {
+        0o100000 => refusal::NO_REASON,
+        0o040000 => refusal::A_DIRECTORY,
+        0o120000 => refusal::LINK,
         _ => refusal::SPECIAL,
     }
 }
 
 // Removes what was to take the output's place.
-pub(crate) fn release(target: Target) {
-    let s = target.scratch;
-    if s.fd >= 0 {
-        libc::close(s.fd);
-        names::unlink(s.name);
+pub(crate) fn release<F: Drop>(rt: &impl Files, target: Target<F>) {
+    if let Target::File(made) = target {
+        let Scratch { file, name } = made.scratch;
+        drop(file);
+        names::unlink(rt, name);
+    }
+}
+
+// What a target refuses.
+pub(crate) fn refused<F>(target: &Target<F>) -> Refusal {
+    match target {
+        Target::Refused(bad) => *bad,
+        _ => refusal::none(),
     }
 }
 
 // Writes the output.
-pub(crate) fn write(target: Target, o: Options, bytes: &[u8]) -> Refusal {
-    let bad = target.refusal;
-    if bad.number != 0 {
-        return bad;
+pub(crate) fn write<R: System>(
+    rt: &R,
+    target: Target<R::File>,
+    o: Options,
+    bytes: &[u8],
+) -> Refusal {
+    match target {
+        Target::Refused(bad) => bad,
+        Target::Standard => printed(sent(o, Opt::Out, &mut std::io::writer(rt), bytes)),
+        Target::File(made) => write_file(rt, o, Opt::Out, made, bytes),
     }
-    if !is_standard(o) {
-        return write_file(o, Opt::Out, target, bytes);
-    }
-    printed(sent(o, Opt::Out, STDOUT_FILENO, bytes))
 }
 
 // What is refused where standard output did not take it all.
-pub(crate) fn printed(all: bool) -> Refusal {
-    if all {
-        return refusal::none();
+pub(crate) fn printed(sent: Result<()>) -> Refusal {
+    match sent {
+        Ok(()) => refusal::none(),
+        Err(e) => refusal::by_system(Opt::Out, refusal::NOT_WRITTEN, e),
     }
-    refusal::by_system(Opt::Out, refusal::NOT_WRITTEN)
 }
 
 // Writes a text to standard output.
-pub(crate) fn said(t: Text) -> Refusal {
-    printed(io::write_all(STDOUT_FILENO, words::first(&t.bytes, t.len)))
+pub(crate) fn said(rt: &impl Print, t: Text) -> Refusal {
+    printed(rt.write_all(words::first(&t.bytes, t.len)))
 }
 
 // Writes the file that the option names. That its folder is on the disk too is not waited for where it cannot be.
-pub(crate) fn write_file(o: Options, option: Opt, target: Target, bytes: &[u8]) -> Refusal {
-    let name = options::word_of(o, option);
-    let s = target.scratch;
-    let r = filled(o, option, s.fd, target, bytes);
-    libc::close(s.fd);
-    let t = put_in_place(r, option, target.there, s.name, name);
+pub(crate) fn write_file<R: System>(
+    rt: &R,
+    o: Options,
+    option: Opt,
+    made: Made<R::File>,
+    bytes: &[u8],
+) -> Refusal {
+    let name = options::word_of(rt, o, option);
+    let Made {
+        there,
+        rights,
+        scratch,
+    } = made;
+    let Scratch {
+        mut file,
+        name: beside,
+    } = scratch;
+    let r = filled(rt, o, option, &mut file, rights, bytes);
+    drop(file);
+    let t = put_in_place(rt, r, option, there, beside, name);
     if t.number != 0 {
-        names::unlink(s.name);
+        names::unlink(rt, beside);
         return t;
     }
-    names::synced(name);
+    let _ = names::synced(rt, name);
     t
 }
 
 // Gives a file the name that the option names, unless something was refused before. A name that is free is first taken
 // by an empty file: so nothing is replaced that somebody else makes at that moment.
 pub(crate) fn put_in_place(
+    rt: &impl Files,
     before: Refusal,
     option: Opt,
     there: bool,
     from: Text,
     to: Text,
 ) -> Refusal {
-    let r = refusal::or(before, taken(before, option, there, to));
-    if r.number != 0 || names::rename(from, to) == 0 {
+    let r = refusal::or(before, taken(rt, before, option, there, to));
+    if r.number != 0 {
         return r;
     }
-    let s = refusal::by_system(option, refusal::NOT_WRITTEN);
-    if !there {
-        names::unlink(to);
+    match names::rename(rt, from, to) {
+        Ok(()) => r,
+        Err(e) => {
+            if !there {
+                names::unlink(rt, to);
+            }
+            refusal::by_system(option, refusal::NOT_WRITTEN, e)
+        }
     }
-    s
 }
 
-fn taken(before: Refusal, option: Opt, there: bool, name: Text) -> Refusal {
+fn taken(rt: &impl Files, before: Refusal, option: Opt, there: bool, name: Text) -> Refusal {
     if there || before.number != 0 {
         return before;
     }
-    let fd = names::create(name);
-    if fd >= 0 {
-        libc::close(fd);
-        return before;
+    match names::create(rt, name) {
+        Ok(_) => before,
+        Err(e) if e.kind() == ErrorKind::AlreadyExists => {
+            refusal::about(option, refusal::EXISTS, refusal::NO_REASON)
+        }
+        Err(e) => refusal::by_system(option, refusal::NOT_WRITTEN, e),
     }
-    if os::errno() == libc::EEXIST {
-        return refusal::about(option, refusal::EXISTS, refusal::NO_REASON);
-    }
-    refusal::by_system(option, refusal::NOT_WRITTEN)
 }
 
 // Writes all to a file, gives it the rights of the one that it replaces, and waits until it is on the disk.
-pub(crate) fn filled(o: Options, option: Opt, fd: i32, target: Target, bytes: &[u8]) -> Refusal {
-    if !sent(o, option, fd, bytes) {
-        return refusal::by_system(option, refusal::NOT_WRITTEN);
+pub(crate) fn filled<R: System>(
+    rt: &R,
+    o: Options,
+    option: Opt,
+    file: &mut R::File,
+    rights: Status,
+    bytes: &[u8],
+) -> Refusal {
+    if let Err(e) = sent(o, option, file, bytes) {
+        return refusal::by_system(option, refusal::NOT_WRITTEN, e);
     }
-    let rights = target.rights;
-    if rights.good && !rights_set(fd, rights) {
+    if rights.good && !rights_set(rt, file, rights) {
         return refusal::about(option, refusal::NOT_WRITTEN, refusal::RIGHTS);
     }
-    if libc::fsync(fd) == 0 {
-        return refusal::none();
+    match file.sync_all() {
+        Ok(()) => refusal::none(),
+        Err(e) => refusal::by_system(option, refusal::NOT_WRITTEN, e),
     }
-    refusal::by_system(option, refusal::NOT_WRITTEN)
 }
 
 // The group is kept, or nothing is: its rights would go to another. Of the owner only root can keep another's.
-fn rights_set(fd: i32, s: Status) -> bool {
-    let kept = libc::fchown(fd, s.owner, s.group) == 0
-        || libc::fchown(fd, 4294967295, s.group) == 0;
-    kept && libc::fchmod(fd, s.mode % 512) == 0
+fn rights_set<R: System>(rt: &R, file: &R::File, s: Status) -> bool {
+    let kept = rt.give(file, Some(s.owner), s.group).is_ok() || rt.give(file, None, s.group).is_ok();
+    kept && file.set_permissions(Permissions::from_mode(s.mode % 512)).is_ok()
 }
 
-fn sent(o: Options, option: Opt, fd: i32, bytes: &[u8]) -> bool {
+fn sent<W: Write>(o: Options, option: Opt, to: &mut W, bytes: &[u8]) -> Result<()> {
     if options::in_hex(o, option) {
-        return sent_in_hex(fd, bytes);
+        return sent_in_hex(to, bytes);
     }
-    io::write_all(fd, bytes)
+    to.write_all(bytes)
 }
 
 // One line.
-pub(crate) fn sent_in_hex(fd: i32, bytes: &[u8]) -> bool {
+pub(crate) fn sent_in_hex<W: Write>(to: &mut W, bytes: &[u8]) -> Result<()> {
     let mut at = 0;
     while at < bytes.len() {
         let end = chunk_end(at, bytes.len());
-        if !chunk_sent(fd, &bytes[at..end]) {
-            return false;
-        }
+        chunk_sent(to, &bytes[at..end])?;
         at = end;
     }
-    io::write_all(fd, b"\n")
+    to.write_all(b"\n")
 }
 
 // 2048 bytes more, or what is left.
@@ -295,10 +345,10 @@ fn chunk_end(at: usize, len: usize) -> usize
     if len - at > 2048 { at + 2048 } else { len }
 }
 
-fn chunk_sent(fd: i32, bytes: &[u8]) -> bool {
+fn chunk_sent<W: Write>(to: &mut W, bytes: &[u8]) -> Result<()> {
     let mut digits = io::buffer();
     hexadecimal::spell(bytes, &mut digits);
-    io::write_all(fd, words::first(&digits, twice(bytes.len())))
+    to.write_all(words::first(&digits, twice(bytes.len())))
 }
 
 fn twice(n: usize) -> usize {

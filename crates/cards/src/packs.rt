@@ -1,18 +1,20 @@
 // pack: the cards of a lesson pack, without a key.
 use crate::options::{Opt, Options};
 use crate::refusal::Refusal;
+use crate::system::System;
 use crate::text::Text;
 use crate::{inputs, outputs, refusal, rooms, text};
+use std::io::Print;
 use words::first;
 
-pub(crate) fn pack(o: Options) -> Refusal {
+pub(crate) fn pack(rt: &impl System, o: Options) -> Refusal {
     let mut room = rooms::pack();
-    let p = inputs::read(refusal::none(), o, Opt::In, &mut room);
-    told(p.refusal, first(&room, p.len))
+    let p = inputs::read(rt, refusal::none(), o, Opt::In, &mut room);
+    told(rt, p.refusal, first(&room, p.len))
 }
 
 // All of the pack is judged before a card is told.
-fn told(before: Refusal, bytes: &[u8]) -> Refusal {
+fn told(rt: &impl Print, before: Refusal, bytes: &[u8]) -> Refusal {
     if before.number != 0 {
         return before;
     }
@@ -20,7 +22,7 @@ fn told(before: Refusal, bytes: &[u8]) -> Refusal {
     if judged.number != 0 {
         return refusal::of_pack(judged);
     }
-    outputs::said(lines(bytes, judged.cards))
+    outputs::said(rt, lines(bytes, judged.cards))
 }
 
 // A line for each card.

@@ -4,11 +4,12 @@ use crate::options::Options;
 use crate::refusal::Refusal;
 use crate::text::Text;
 use crate::{commands, options, refusal, text};
+use std::rt::Env;
 use words::{find, first};
 
 // What has been read of the command line: the command, whether its help is asked for, the options, the row of the one
 // whose word is still to come (16 for none), whether `--` has ended them, and what was refused.
-#[derive(Drop)]
+#[derive(Clone, Copy)]
 pub(crate) struct Parsed {
     pub command: Command,
     pub help: bool,
@@ -20,24 +21,24 @@ pub(crate) struct Parsed {
 
 // The option that a word names: its row, 16 for none, whether in hex, and where what follows an = sign begins, 0 for no
 // such sign.
-#[derive(Drop)]
+#[derive(Clone, Copy)]
 struct Named {
     row: usize,
     hex: bool,
     from: usize,
 }
 
-pub(crate) fn command_line() -> Parsed {
-    let n = os::arg_count();
+pub(crate) fn command_line(rt: &impl Env) -> Parsed {
+    let n = options::word_count(rt);
     if n < 2 {
         return begun(Command::Help, refusal::of_word(0, refusal::COMMAND_NEEDED));
     }
-    let named = commands::of_word(options::word(1));
+    let named = commands::of_word(options::word(rt, 1));
     if !named.good {
         return begun(Command::Help, refusal::of_word(1, refusal::NO_COMMAND));
     }
     let command = named.command;
-    all_words(begun(command, refusal::none()), n)
+    all_words(rt, begun(command, refusal::none()), n)
 }
 
 fn begun(command: Command, bad: Refusal) -> Parsed {
@@ -51,11 +52,11 @@ fn begun(command: Command, bad: Refusal) -> Parsed {
     }
 }
 
-fn all_words(begun: Parsed, n: usize) -> Parsed {
+fn all_words(rt: &impl Env, begun: Parsed, n: usize) -> Parsed {
     let mut p = begun;
     let mut i = 2;
     while i < n {
-        p = next(p, i);
+        p = next(rt, p, i);
         i += 1;
     }
     if p.waits < 16 {
@@ -65,15 +66,15 @@ fn all_words(begun: Parsed, n: usize) -> Parsed {
 }
 
 // The word at place i: an option, what one waits for, or behind `help` a command.
-fn next(p: Parsed, i: usize) -> Parsed {
+fn next(rt: &impl Env, p: Parsed, i: usize) -> Parsed {
     let bad = p.bad;
     if bad.number != 0 {
         return p;
     }
-    let w = options::word(i);
-    if os::errno() != 0 {
-        return against(p, i, refusal::TOO_LONG);
-    }
+    let w = match options::whole_word(rt, i) {
+        Ok(w) => w,
+        Err(_) => return against(p, i, refusal::TOO_LONG),
+    };
     let command = p.command;
     match command {
         Command::Help => helped(p, i, w),

@@ -5,13 +5,14 @@ use crate::commands::Command;
 use crate::options::{Opt, Options};
 use crate::parse::Parsed;
 use crate::text::Text;
-use crate::{commands, options, tables, text};
-use libc::STDERR_FILENO;
+use crate::{STANDARD_ERROR, commands, options, tables, text};
 use pack::PackJudged;
+use std::io::Error;
+use std::rt::Env;
 use words::first;
 
 // What a refusal is about: a word of the command line, an option, or the pack that was judged.
-#[derive(Drop)]
+#[derive(Clone, Copy)]
 pub(crate) enum Subject {
     Word(usize),
     Input(Opt),
@@ -19,7 +20,7 @@ pub(crate) enum Subject {
 }
 
 // The entry is that of a key book which is badly written, from 1, or 0.
-#[derive(Drop)]
+#[derive(Clone, Copy)]
 pub(crate) struct Refusal {
     pub number: u32,
     pub about: Subject,
@@ -44,8 +45,12 @@ pub(crate) const IN_USE: u32 = 107;
 
 pub(crate) const BAD_ENTRIES: u32 = 108;
 
-// Reasons: the system's are its error numbers, as this one, EISDIR; the tool's own lie above them.
+// Reasons: the system's are its error numbers, as EISDIR, 21; the tool's own lie above them.
 pub(crate) const NO_REASON: usize = 0;
+
+pub(crate) const NO_SUCH_FILE: usize = 2;
+
+const INPUT_OR_OUTPUT: usize = 5;
 
 pub(crate) const A_DIRECTORY: usize = 21;
 
@@ -251,9 +256,9 @@ pub(crate) fn about(option: Opt, number: u32, why: usize) -> Refusal {
     }
 }
 
-// Of an option, where the system refused, for the reason that it gave last.
-pub(crate) fn by_system(option: Opt, number: u32) -> Refusal {
-    about(option, number, error())
+// Of an option, where the system refused, for the reason that it gave.
+pub(crate) fn by_system(option: Opt, number: u32, e: Error) -> Refusal {
+    about(option, number, error(e))
 }
 
 // Of an entry of a key book.
@@ -276,9 +281,12 @@ pub(crate) fn of_pack(judged: PackJudged) -> Refusal {
     }
 }
 
-// The error number that the system gave last.
-pub(crate) fn error() -> usize {
-    crate::natural(os::errno())
+// The error number that the system gave. What was refused without one is an error of input or output.
+pub(crate) fn error(e: Error) -> usize {
+    match e.raw_os_error() {
+        Some(n) => crate::natural(n),
+        None => INPUT_OR_OUTPUT,
+    }
 }
 
 // The exit status, 0 exactly for the number 0. A system keeps its low eight bits only.
@@ -289,18 +297,18 @@ pub(crate) fn status(number: u32) -> u32
 }
 
 // Writes the last line in one piece: what was refused, or, if --verbose asks for it, that it is done.
-pub(crate) fn last_line(r: Refusal, p: Parsed) {
-    let line = line_of(r, p);
-    io::write_all(STDERR_FILENO, first(&line.bytes, line.len));
+pub(crate) fn last_line(rt: &impl Env, r: Refusal, p: Parsed) {
+    let line = line_of(rt, r, p);
+    io::write_all(STANDARD_ERROR, first(&line.bytes, line.len));
 }
 
-fn line_of(r: Refusal, p: Parsed) -> Text {
+fn line_of(rt: &impl Env, r: Refusal, p: Parsed) -> Text {
     if r.number == 0 {
         return done(p.options);
     }
     let number = text::number(b"cards: refused ", r.number as u64, b" ");
     let words = text::and(text::and_text(number, words_of(r.number)), b": ");
-    let line = text::and_text(words, subject_of(r, p.options));
+    let line = text::and_text(words, subject_of(rt, r, p.options));
     text::and(text::and_text(line, in_brackets(reason(r, p))), b"\n")
 }
 
@@ -312,13 +320,13 @@ fn done(o: Options) -> Text {
 }
 
 // What the refusal is about.
-fn subject_of(r: Refusal, o: Options) -> Text {
+fn subject_of(rt: &impl Env, r: Refusal, o: Options) -> Text {
     let about = r.about;
     match about {
-        Subject::Word(word) => text::shown(options::word(word)),
-        Subject::Input(option) => input(r.number, option, o),
+        Subject::Word(word) => text::shown(options::word(rt, word)),
+        Subject::Input(option) => input(rt, r.number, option, o),
         Subject::Pack(judged) => {
-            text::and_text(input(r.number, Opt::In, o), in_brackets(found(judged)))
+            text::and_text(input(rt, r.number, Opt::In, o), in_brackets(found(judged)))
         },
     }
 }
@@ -336,11 +344,11 @@ fn found(judged: PackJudged) -> Text {
 }
 
 // The option as it was given and its word, or the standard stream that stands for it.
-fn input(number: u32, option: Opt, o: Options) -> Text {
+fn input(rt: &impl Env, number: u32, option: Opt, o: Options) -> Text {
     let given = options::given(o, option);
     if number != COMMAND_LINE
         && options::is_stream(option)
-        && (!given || options::is_dash(o, option))
+        && (!given || options::is_dash(rt, o, option))
     {
         return stream(option);
     }
@@ -350,7 +358,7 @@ fn input(number: u32, option: Opt, o: Options) -> Text {
     }
     text::and_text(
         text::and(named, b" "),
-        text::shown(options::word_of(o, option)),
+        text::shown(options::word_of(rt, o, option)),
     )
 }
 

@@ -3,16 +3,22 @@ use crate::commands::Command;
 use crate::options::{Opt, Options, given};
 use crate::refusal::{Refusal, or};
 use crate::{drawers, inputs, names, options, outputs, refusal};
-use libc::STDOUT_FILENO;
+use std::io::IsTerminal;
+use std::rt::{Env, Files};
 
 // What is refused first. No rule has an effect, so all are judged.
-pub(crate) fn judged(command: Command, o: Options) -> Refusal {
-    let r = or(required(command, o), or(together(command, o), numbers(o)));
+pub(crate) fn judged<R: Env + Files>(
+    rt: &R,
+    out: &impl IsTerminal,
+    command: Command,
+    o: Options,
+) -> Refusal {
+    let r = or(required(command, o), or(together(command, o), numbers(rt, o)));
     let s = or(
-        standard_input(command, o),
-        or(not_in_drawer(o), not_over_input(o)),
+        standard_input(rt, command, o),
+        or(not_in_drawer(rt, o), not_over_input(rt, o)),
     );
-    or(r, or(s, not_to_terminal(command, o)))
+    or(r, or(s, not_to_terminal(out, command, o)))
 }
 
 // What the table has as needed.
@@ -84,23 +90,23 @@ fn against(option: Opt, why: usize) -> Refusal {
     refusal::about(option, refusal::COMMAND_LINE, why)
 }
 
-fn numbers(o: Options) -> Refusal {
+fn numbers(rt: &impl Env, o: Options) -> Refusal {
     let r = or(
-        number(o, Opt::Class, 65535),
-        number(o, Opt::Reader, 4294967295),
+        number(rt, o, Opt::Class, 65535),
+        number(rt, o, Opt::Reader, 4294967295),
     );
     let s = or(
-        number(o, Opt::Count, 18446744073709551615),
-        number(o, Opt::Length, 18446744073709551615),
+        number(rt, o, Opt::Count, 18446744073709551615),
+        number(rt, o, Opt::Length, 18446744073709551615),
     );
     or(r, s)
 }
 
-fn number(o: Options, option: Opt, most: u64) -> Refusal {
+fn number(rt: &impl Env, o: Options, option: Opt, most: u64) -> Refusal {
     if !given(o, option) {
         return refusal::none();
     }
-    let d = inputs::number(o, option);
+    let d = inputs::number(rt, o, option);
     if d.good && d.value <= most {
         return refusal::none();
     }
@@ -108,12 +114,12 @@ fn number(o: Options, option: Opt, most: u64) -> Refusal {
 }
 
 // Standard input is read for one input only. The rows before --out are those of inputs.
-fn standard_input(command: Command, o: Options) -> Refusal {
+fn standard_input(rt: &impl Env, command: Command, o: Options) -> Refusal {
     let mut taken = reads_standard(command, o);
     let end = options::place(Opt::Out);
     let mut row = 0;
     while row < end {
-        if options::is_dash(o, options::at(row)) {
+        if options::is_dash(rt, o, options::at(row)) {
             if taken {
                 return against(options::at(row), refusal::STANDARD_INPUT_TAKEN);
             }
@@ -140,34 +146,34 @@ fn given_to_show(command: Command, o: Options) -> bool {
 }
 
 // Whether a file is named for the output.
-fn has_file(o: Options) -> bool {
-    given(o, Opt::Out) && !options::is_dash(o, Opt::Out)
+fn has_file(rt: &impl Env, o: Options) -> bool {
+    given(o, Opt::Out) && !options::is_dash(rt, o, Opt::Out)
 }
 
 // The output goes neither to the drawer nor to the file beside it, under whatever name.
-fn not_in_drawer(o: Options) -> Refusal {
-    if !given(o, Opt::Drawer) || !has_file(o) {
+fn not_in_drawer<R: Env + Files>(rt: &R, o: Options) -> Refusal {
+    if !given(o, Opt::Drawer) || !has_file(rt, o) {
         return refusal::none();
     }
-    let out = options::word_of(o, Opt::Out);
-    let drawer = options::word_of(o, Opt::Drawer);
-    if names::same_place(out, drawer) || names::same_place(out, drawers::beside(o)) {
+    let out = options::word_of(rt, o, Opt::Out);
+    let drawer = options::word_of(rt, o, Opt::Drawer);
+    if names::same_place(rt, out, drawer) || names::same_place(rt, out, drawers::beside(rt, o)) {
         return against(Opt::Out, refusal::DRAWERS_OWN);
     }
     refusal::none()
 }
 
 // Nor does it replace a file that is read, but for that of --in.
-fn not_over_input(o: Options) -> Refusal {
-    if given(o, Opt::Force) && has_file(o) && outputs::is_read(o, options::word_of(o, Opt::Out)) {
+fn not_over_input<R: Env + Files>(rt: &R, o: Options) -> Refusal {
+    if given(o, Opt::Force) && has_file(rt, o) && outputs::is_read(rt, o, options::word_of(rt, o, Opt::Out)) {
         return against(Opt::Out, refusal::IS_INPUT);
     }
     refusal::none()
 }
 
 // Nor to a terminal, unless - asks for it: that would show what is sealed as noise, and keys to whoever looks on.
-fn not_to_terminal(command: Command, o: Options) -> Refusal {
-    if given(o, Opt::Out) || !is_for_machines(command) || libc::isatty(STDOUT_FILENO) != 1 {
+fn not_to_terminal(out: &impl IsTerminal, command: Command, o: Options) -> Refusal {
+    if given(o, Opt::Out) || !is_for_machines(command) || !out.is_terminal() {
         return refusal::none();
     }
     refusal::about(Opt::Out, refusal::NOT_WRITTEN, refusal::TERMINAL)

@@ -2,24 +2,38 @@
 use crate::inputs::Got;
 use crate::options::{Opt, Options};
 use crate::refusal::Refusal;
+use crate::system::System;
 use crate::{drawers, inputs, keys, options, outputs, put, refusal, rooms};
 use words::first;
 
 // Seals. Each room has one byte more than is allowed, so that what is too long is seen.
-pub(crate) fn seal(o: Options) -> Refusal {
+pub(crate) fn seal(rt: &impl System, o: Options) -> Refusal {
     let mut key = [0u8; 17];
     let mut nonce = [0u8; 13];
-    let k = keys::read(o, &mut key);
-    let n = inputs::read_given(k.refusal, o, Opt::Nonce, 0, &mut nonce);
-    seal_under(n.refusal, o, first(&key, k.len), first(&nonce, n.len))
+    let k = keys::read(rt, o, &mut key);
+    let n = inputs::read_given(rt, k.refusal, o, Opt::Nonce, 0, &mut nonce);
+    seal_under(
+        rt,
+        n.refusal,
+        o,
+        first(&key, k.len),
+        first(&nonce, n.len),
+    )
 }
 
-fn seal_under(before: Refusal, o: Options, key: &[u8], nonce: &[u8]) -> Refusal {
+fn seal_under(
+    rt: &impl System,
+    before: Refusal,
+    o: Options,
+    key: &[u8],
+    nonce: &[u8],
+) -> Refusal {
     let mut data = rooms::data();
     let mut text = io::large_buffer();
-    let d = data_of(before, o, &mut data);
-    let t = inputs::read(d.refusal, o, Opt::In, &mut text);
+    let d = data_of(rt, before, o, &mut data);
+    let t = inputs::read(rt, d.refusal, o, Opt::In, &mut text);
     seal_text(
+        rt,
         t.refusal,
         o,
         key,
@@ -30,11 +44,11 @@ fn seal_under(before: Refusal, o: Options, key: &[u8], nonce: &[u8]) -> Refusal 
 }
 
 // The associated data: the words of the label, a file's, or none.
-fn data_of(before: Refusal, o: Options, room: &mut [u8]) -> Got {
+fn data_of(rt: &impl System, before: Refusal, o: Options, room: &mut [u8]) -> Got {
     if !options::given(o, Opt::Label) {
-        return inputs::read_given(before, o, Opt::Data, 0, room);
+        return inputs::read_given(rt, before, o, Opt::Data, 0, room);
     }
-    let label = options::word_of(o, Opt::Label);
+    let label = options::word_of(rt, o, Opt::Label);
     Got {
         refusal: before,
         len: put(room, 0, first(&label.bytes, label.len)),
@@ -43,6 +57,7 @@ fn data_of(before: Refusal, o: Options, room: &mut [u8]) -> Got {
 
 // The nonce is the one that was read, or is drawn.
 fn seal_text(
+    rt: &impl System,
     before: Refusal,
     o: Options,
     key: &[u8],
@@ -54,30 +69,37 @@ fn seal_text(
         return before;
     }
     if options::given(o, Opt::Drawer) {
-        return seal_drawn(o, key, data, text);
+        return seal_drawn(rt, o, key, data, text);
     }
-    seal_given(o, key, nonce, data, text)
+    seal_given(rt, o, key, nonce, data, text)
 }
 
-fn seal_given(o: Options, key: &[u8], nonce: &[u8], data: &[u8], text: &[u8]) -> Refusal {
+fn seal_given(
+    rt: &impl System,
+    o: Options,
+    key: &[u8],
+    nonce: &[u8],
+    data: &[u8],
+    text: &[u8],
+) -> Refusal {
     let mut room = rooms::card();
     let number = sealed_card::seal(key, nonce, data, text, &mut room);
-    outputs::finish(refused(number), o, false, first(&room, with_30(text.len())))
+    outputs::finish(rt,
+        refused(number), o, false, first(&room, with_30(text.len())))
 }
 
-fn seal_drawn(o: Options, key: &[u8], data: &[u8], text: &[u8]) -> Refusal {
-    let h = drawers::take(o);
-    let bad = h.refusal;
-    if bad.number != 0 {
-        return bad;
-    }
+fn seal_drawn(rt: &impl System, o: Options, key: &[u8], data: &[u8], text: &[u8]) -> Refusal {
+    let h = match drawers::take(rt, o) {
+        Ok(h) => h,
+        Err(bad) => return bad,
+    };
     let drawn = drawer::draw(h.drawer);
     let nonce = drawn.bytes;
     let next = drawn.next;
     let mut room = rooms::card();
     let number = sealed_card::seal(key, &nonce, data, text, &mut room);
     let against = refusal::or(refused(number), drawers::spent(drawn.number));
-    drawers::spend(o, h, next, against, first(&room, with_30(text.len())))
+    drawers::spend(rt, o, h, next, against, first(&room, with_30(text.len())))
 }
 
 // How long the card of a text of this length is.
@@ -86,14 +108,15 @@ fn with_30(n: usize) -> usize {
 }
 
 // Opens a card, and writes its text if that is asked for.
-pub(crate) fn open(o: Options, writes: bool) -> Refusal {
+pub(crate) fn open(rt: &impl System, o: Options, writes: bool) -> Refusal {
     let mut key = [0u8; 17];
     let mut data = rooms::data();
     let mut sealed = rooms::card();
-    let k = keys::read(o, &mut key);
-    let d = data_of(k.refusal, o, &mut data);
-    let c = inputs::read(d.refusal, o, Opt::In, &mut sealed);
+    let k = keys::read(rt, o, &mut key);
+    let d = data_of(rt, k.refusal, o, &mut data);
+    let c = inputs::read(rt, d.refusal, o, Opt::In, &mut sealed);
     open_card(
+        rt,
         c.refusal,
         o,
         writes,
@@ -104,6 +127,7 @@ pub(crate) fn open(o: Options, writes: bool) -> Refusal {
 }
 
 fn open_card(
+    rt: &impl System,
     before: Refusal,
     o: Options,
     writes: bool,
@@ -120,6 +144,7 @@ fn open_card(
         return refused(number);
     }
     outputs::finish(
+        rt,
         refused(number),
         o,
         false,

@@ -1,24 +1,25 @@
 // show: what a drawer holds, and the parts of a card, without a key.
 use crate::options::{Opt, Options};
 use crate::refusal::Refusal;
+use crate::system::System;
 use crate::text::Text;
 use crate::{drawers, inputs, names, options, outputs, refusal, rooms, text};
 use drawer::Drawer;
-use libc::STDOUT_FILENO;
+use std::io::Print;
 use words::first;
 
-pub(crate) fn show(o: Options) -> Refusal {
+pub(crate) fn show(rt: &impl System, o: Options) -> Refusal {
     if options::given(o, Opt::Drawer) {
-        return show_drawer(options::word_of(o, Opt::Drawer));
+        return show_drawer(rt, options::word_of(rt, o, Opt::Drawer));
     }
     let mut card = rooms::card();
-    let c = inputs::read(refusal::none(), o, Opt::In, &mut card);
-    show_card(c.refusal, first(&card, c.len))
+    let c = inputs::read(rt, refusal::none(), o, Opt::In, &mut card);
+    show_card(rt, c.refusal, first(&card, c.len))
 }
 
 // Only a regular file is opened: to open a pipe could take forever.
-fn show_drawer(name: Text) -> Refusal {
-    let s = names::status(name, true);
+fn show_drawer(rt: &impl System, name: Text) -> Refusal {
+    let s = names::status(rt, name, true);
     let kind = outputs::kind_of(s);
     if s.good && kind == refusal::A_DIRECTORY {
         return refusal::about(Opt::Drawer, refusal::NOT_READ, kind);
@@ -26,14 +27,13 @@ fn show_drawer(name: Text) -> Refusal {
     if s.good && kind != refusal::NO_REASON {
         return refusal::about(Opt::Drawer, refusal::DAMAGED, kind);
     }
-    let fd = names::open_read(name);
-    if fd < 0 {
-        return refusal::by_system(Opt::Drawer, refusal::NOT_READ);
-    }
-    let k = drawers::kept_in(fd);
-    libc::close(fd);
+    let mut file = match names::open_read(rt, name) {
+        Ok(file) => file,
+        Err(e) => return refusal::by_system(Opt::Drawer, refusal::NOT_READ, e),
+    };
+    let k = drawers::kept_in(&mut file);
     if k.number == 0 {
-        return outputs::said(of_drawer(k.drawer));
+        return outputs::said(rt, of_drawer(k.drawer));
     }
     refusal::about(Opt::Drawer, refusal::DAMAGED, refusal::NO_REASON)
 }
@@ -55,7 +55,7 @@ fn drawn_from(reader: u64, count: u64) -> Text {
 }
 
 // A card is as long as it says: 30 bytes and its text.
-fn show_card(before: Refusal, card: &[u8]) -> Refusal {
+fn show_card(rt: &impl Print, before: Refusal, card: &[u8]) -> Refusal {
     if before.number != 0 {
         return before;
     }
@@ -66,9 +66,9 @@ fn show_card(before: Refusal, card: &[u8]) -> Refusal {
     if card.len() > 30 + n {
         return refusal::about(Opt::In, 15, refusal::NO_REASON);
     }
-    let r = outputs::said(front(card));
-    let s = refusal::or(r, ciphertext_said(r, text::part(card, 14, 14 + n)));
-    refusal::or(s, tag_said(s, text::part(card, 14 + n, card.len())))
+    let r = outputs::said(rt, front(card));
+    let s = refusal::or(r, ciphertext_said(rt, r, text::part(card, 14, 14 + n)));
+    refusal::or(s, tag_said(rt, s, text::part(card, 14 + n, card.len())))
 }
 
 fn front(card: &[u8]) -> Text {
@@ -78,16 +78,16 @@ fn front(card: &[u8]) -> Text {
     text::and_text(text::and_text(nonce, drawn), length)
 }
 
-fn ciphertext_said(before: Refusal, ciphertext: &[u8]) -> Refusal {
+fn ciphertext_said(rt: &impl Print, before: Refusal, ciphertext: &[u8]) -> Refusal {
     if before.number != 0 {
         return before;
     }
-    outputs::printed(outputs::sent_in_hex(STDOUT_FILENO, ciphertext))
+    outputs::printed(outputs::sent_in_hex(&mut std::io::writer(rt), ciphertext))
 }
 
-fn tag_said(before: Refusal, tag: &[u8]) -> Refusal {
+fn tag_said(rt: &impl Print, before: Refusal, tag: &[u8]) -> Refusal {
     if before.number != 0 {
         return before;
     }
-    outputs::said(text::hex(b"tag ", tag))
+    outputs::said(rt, text::hex(b"tag ", tag))
 }

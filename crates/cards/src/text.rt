@@ -3,7 +3,7 @@ use crate::{first_mut, put};
 use words::{first, same};
 
 // The first len bytes count.
-#[derive(Drop)]
+#[derive(Clone, Copy)]
 pub(crate) struct Text {
     pub bytes: [u8; 8192],
     pub len: usize,

@@ -1,19 +1,21 @@
 // encipher and decipher.
 use crate::options::{Opt, Options};
 use crate::refusal::Refusal;
+use crate::system::System;
 use crate::{drawers, first_mut, inputs, options, outputs, put, refusal, rooms};
 use words::first;
 
 // Enciphers a block, which stands behind its iv.
-pub(crate) fn encipher(o: Options) -> Refusal {
+pub(crate) fn encipher(rt: &impl System, o: Options) -> Refusal {
     let mut key = [0u8; 129];
     let mut iv = [0u8; 49];
     let mut file = rooms::wide_file();
-    let k = inputs::read(refusal::none(), o, Opt::Key, &mut key);
-    let i = inputs::read_given(k.refusal, o, Opt::Iv, 0, &mut iv);
-    let b = inputs::read(i.refusal, o, Opt::In, behind_iv(&mut file));
+    let k = inputs::read(rt, refusal::none(), o, Opt::Key, &mut key);
+    let i = inputs::read_given(rt, k.refusal, o, Opt::Iv, 0, &mut iv);
+    let b = inputs::read(rt, i.refusal, o, Opt::In, behind_iv(&mut file));
     let r = b.refusal;
     encipher_under(
+        rt,
         r,
         o,
         first(&key, k.len),
@@ -25,6 +27,7 @@ pub(crate) fn encipher(o: Options) -> Refusal {
 
 // The block has n bytes; the iv is the one that was read, or is drawn.
 fn encipher_under(
+    rt: &impl System,
     before: Refusal,
     o: Options,
     key: &[u8],
@@ -36,24 +39,29 @@ fn encipher_under(
         return before;
     }
     if options::given(o, Opt::Drawer) {
-        return encipher_drawn(o, key, file, n);
+        return encipher_drawn(rt, o, key, file, n);
     }
     let number = enciphered(key, iv, file, n);
-    outputs::finish(enciphering(number), o, false, first(file, with_iv(n)))
+    outputs::finish(rt, enciphering(number), o, false, first(file, with_iv(n)))
 }
 
-fn encipher_drawn(o: Options, key: &[u8], file: &mut [u8], n: usize) -> Refusal {
-    let h = drawers::take(o);
-    let bad = h.refusal;
-    if bad.number != 0 {
-        return bad;
-    }
+fn encipher_drawn(
+    rt: &impl System,
+    o: Options,
+    key: &[u8],
+    file: &mut [u8],
+    n: usize,
+) -> Refusal {
+    let h = match drawers::take(rt, o) {
+        Ok(h) => h,
+        Err(bad) => return bad,
+    };
     let drawn = drawer::iv(h.drawer);
     let iv = drawn.bytes;
     let next = drawn.next;
     let number = enciphered(key, &iv, file, n);
     let against = refusal::or(enciphering(number), drawers::spent(drawn.number));
-    drawers::spend(o, h, next, against, first(file, with_iv(n)))
+    drawers::spend(rt, o, h, next, against, first(file, with_iv(n)))
 }
 
 // Enciphers the n bytes that stand behind the place of the iv, and puts the iv there.
@@ -64,16 +72,28 @@ fn enciphered(key: &[u8], iv: &[u8], file: &mut [u8], n: usize) -> u32 {
 }
 
 // Deciphers the block of a wide file.
-pub(crate) fn decipher(o: Options) -> Refusal {
+pub(crate) fn decipher(rt: &impl System, o: Options) -> Refusal {
     let mut key = [0u8; 129];
     let mut file = rooms::wide_file();
-    let k = inputs::read(refusal::none(), o, Opt::Key, &mut key);
-    let f = inputs::read(k.refusal, o, Opt::In, &mut file);
+    let k = inputs::read(rt, refusal::none(), o, Opt::Key, &mut key);
+    let f = inputs::read(rt, k.refusal, o, Opt::In, &mut file);
     let r = f.refusal;
-    decipher_in(r, o, first(&key, k.len), first_mut(&mut file, f.len))
+    decipher_in(
+        rt,
+        r,
+        o,
+        first(&key, k.len),
+        first_mut(&mut file, f.len),
+    )
 }
 
-fn decipher_in(before: Refusal, o: Options, key: &[u8], file: &mut [u8]) -> Refusal {
+fn decipher_in(
+    rt: &impl System,
+    before: Refusal,
+    o: Options,
+    key: &[u8],
+    file: &mut [u8],
+) -> Refusal {
     if before.number != 0 {
         return before;
     }
@@ -81,7 +101,7 @@ fn decipher_in(before: Refusal, o: Options, key: &[u8], file: &mut [u8]) -> Refu
     let n = put(&mut iv, 0, file);
     let block = behind_iv(file);
     let number = lioness::decipher(key, first(&iv, n), block);
-    outputs::finish(deciphering(number), o, false, block)
+    outputs::finish(rt, deciphering(number), o, false, block)
 }
 
 // What stands behind the 48 bytes of an iv, nothing where there are fewer.

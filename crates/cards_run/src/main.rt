@@ -1,4 +1,8 @@
-// The tool in the gate: its golden run. A Rattle program has no exit status, so what is installed is office/main.c.
-fn main() {
-    cards::run();
+// The office's tool as a program: hands its number on as the exit status.
+#![tactic(auto)]
+
+use std::process::ExitCode;
+
+fn main(rt: HostRuntime) -> ExitCode {
+    ExitCode::from(office::cards_run(&rt, &rt.stdout()) as u8)
 }

@@ -1,10 +1,14 @@
-// What office/main.c links: the tool for C.
+// What the program cards_run calls: the tool's number, for an exit status.
+#![tactic(auto)]
+
 ghost use Rattle.std.specs.Prelude.{◌<◌};
 
+use cards::System;
+use std::io::IsTerminal;
+
 // cards::run.
-#[unsafe(no_mangle)]
-pub extern "C" fn cards_run() -> u32
+pub fn cards_run<R: System, T: IsTerminal>(rt: &R, out: &T) -> u32
     ensures { result < 256 }
 {
-    cards::run()
+    cards::run(rt, out)
 }
