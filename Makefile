@@ -31,7 +31,7 @@ $(archive): $(sources)
 
 tool: $(tool) $(completion)
 
-$(tool): $(sources) office/main.c
+$(tool): $(sources)
 	@tools/link-tool
 
 $(completion): crates/cards/src/commands.rt crates/cards/src/options.rt tools/completion

@@ -14,13 +14,7 @@ pub(crate) fn digest(rt: &impl System, o: Options) -> Refusal {
     digest_of(rt, t.refusal, o, first(&key, k.len), first(&text, t.len))
 }
 
-fn digest_of(
-    rt: &impl System,
-    before: Refusal,
-    o: Options,
-    key: &[u8],
-    text: &[u8],
-) -> Refusal {
+fn digest_of(rt: &impl System, before: Refusal, o: Options, key: &[u8], text: &[u8]) -> Refusal {
     if before.number != 0 {
         return before;
     }
@@ -30,7 +24,13 @@ fn digest_of(
     let mut room = [0u8; 65];
     let n = length(rt, o);
     let number = blake::digest(key, text, first_mut(&mut room, n));
-    outputs::finish(rt, refused(number), options::printed(o), false, first(&room, n))
+    outputs::finish(
+        rt,
+        refused(number),
+        options::printed(o),
+        false,
+        first(&room, n),
+    )
 }
 
 // The length that is asked for; one that is too large is 65, which is refused like any.

@@ -31,13 +31,7 @@ pub(crate) fn book(rt: &impl System, o: Options) -> Refusal {
     bind(rt, t.refusal, o, first(&entries, t.len), &mut room)
 }
 
-fn bind(
-    rt: &impl System,
-    before: Refusal,
-    o: Options,
-    entries: &[u8],
-    room: &mut [u8],
-) -> Refusal {
+fn bind(rt: &impl System, before: Refusal, o: Options, entries: &[u8], room: &mut [u8]) -> Refusal {
     if before.number != 0 {
         return before;
     }
@@ -193,7 +187,10 @@ fn list(rt: &impl Print, book: &[u8]) -> Refusal {
     let count = words::two(book, 0) as usize;
     let mut i = 0;
     while i < count {
-        let r = outputs::said(rt, text::number(b"", words::two(book, place_of(i)) as u64, b"\n"));
+        let r = outputs::said(
+            rt,
+            text::number(b"", words::two(book, place_of(i)) as u64, b"\n"),
+        );
         if r.number != 0 {
             return r;
         }

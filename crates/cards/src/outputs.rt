@@ -315,8 +315,11 @@ pub(crate) fn filled<R: System>(
 
 // The group is kept, or nothing is: its rights would go to another. Of the owner only root can keep another's.
 fn rights_set<R: System>(rt: &R, file: &R::File, s: Status) -> bool {
-    let kept = rt.give(file, Some(s.owner), s.group).is_ok() || rt.give(file, None, s.group).is_ok();
-    kept && file.set_permissions(Permissions::from_mode(s.mode % 512)).is_ok()
+    let kept = rt.give(file, Some(s.owner), s.group).is_ok()
+        || rt.give(file, None, s.group).is_ok();
+    kept && file
+        .set_permissions(Permissions::from_mode(s.mode % 512))
+        .is_ok()
 }
 
 fn sent<W: Write>(o: Options, option: Opt, to: &mut W, bytes: &[u8]) -> Result<()> {

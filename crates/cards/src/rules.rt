@@ -13,7 +13,10 @@ pub(crate) fn judged<R: Env + Files>(
     command: Command,
     o: Options,
 ) -> Refusal {
-    let r = or(required(command, o), or(together(command, o), numbers(rt, o)));
+    let r = or(
+        required(command, o),
+        or(together(command, o), numbers(rt, o)),
+    );
     let s = or(
         standard_input(rt, command, o),
         or(not_in_drawer(rt, o), not_over_input(rt, o)),
@@ -165,7 +168,10 @@ fn not_in_drawer<R: Env + Files>(rt: &R, o: Options) -> Refusal {
 
 // Nor does it replace a file that is read, but for that of --in.
 fn not_over_input<R: Env + Files>(rt: &R, o: Options) -> Refusal {
-    if given(o, Opt::Force) && has_file(rt, o) && outputs::is_read(rt, o, options::word_of(rt, o, Opt::Out)) {
+    if given(o, Opt::Force)
+        && has_file(rt, o)
+        && outputs::is_read(rt, o, options::word_of(rt, o, Opt::Out))
+    {
         return against(Opt::Out, refusal::IS_INPUT);
     }
     refusal::none()

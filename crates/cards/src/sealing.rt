@@ -12,22 +12,10 @@ pub(crate) fn seal(rt: &impl System, o: Options) -> Refusal {
     let mut nonce = [0u8; 13];
     let k = keys::read(rt, o, &mut key);
     let n = inputs::read_given(rt, k.refusal, o, Opt::Nonce, 0, &mut nonce);
-    seal_under(
-        rt,
-        n.refusal,
-        o,
-        first(&key, k.len),
-        first(&nonce, n.len),
-    )
+    seal_under(rt, n.refusal, o, first(&key, k.len), first(&nonce, n.len))
 }
 
-fn seal_under(
-    rt: &impl System,
-    before: Refusal,
-    o: Options,
-    key: &[u8],
-    nonce: &[u8],
-) -> Refusal {
+fn seal_under(rt: &impl System, before: Refusal, o: Options, key: &[u8], nonce: &[u8]) -> Refusal {
     let mut data = rooms::data();
     let mut text = io::large_buffer();
     let d = data_of(rt, before, o, &mut data);
@@ -84,8 +72,13 @@ fn seal_given(
 ) -> Refusal {
     let mut room = rooms::card();
     let number = sealed_card::seal(key, nonce, data, text, &mut room);
-    outputs::finish(rt,
-        refused(number), o, false, first(&room, with_30(text.len())))
+    outputs::finish(
+        rt,
+        refused(number),
+        o,
+        false,
+        first(&room, with_30(text.len())),
+    )
 }
 
 fn seal_drawn(rt: &impl System, o: Options, key: &[u8], data: &[u8], text: &[u8]) -> Refusal {

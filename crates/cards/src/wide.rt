@@ -45,13 +45,7 @@ fn encipher_under(
     outputs::finish(rt, enciphering(number), o, false, first(file, with_iv(n)))
 }
 
-fn encipher_drawn(
-    rt: &impl System,
-    o: Options,
-    key: &[u8],
-    file: &mut [u8],
-    n: usize,
-) -> Refusal {
+fn encipher_drawn(rt: &impl System, o: Options, key: &[u8], file: &mut [u8], n: usize) -> Refusal {
     let h = match drawers::take(rt, o) {
         Ok(h) => h,
         Err(bad) => return bad,
@@ -78,13 +72,7 @@ pub(crate) fn decipher(rt: &impl System, o: Options) -> Refusal {
     let k = inputs::read(rt, refusal::none(), o, Opt::Key, &mut key);
     let f = inputs::read(rt, k.refusal, o, Opt::In, &mut file);
     let r = f.refusal;
-    decipher_in(
-        rt,
-        r,
-        o,
-        first(&key, k.len),
-        first_mut(&mut file, f.len),
-    )
+    decipher_in(rt, r, o, first(&key, k.len), first_mut(&mut file, f.len))
 }
 
 fn decipher_in(
