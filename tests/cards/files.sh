@@ -71,12 +71,34 @@ under_name() {
     rm -r here
 }
 
+# A name that is not UTF-8 leads nowhere, and nothing is made by another; a label may be any bytes.
+under_no_text() {
+    local name=$1 no_name='not a name or a place that can be used'
+    mkdir here
+    cd here
+    setting
+    cp song "./$name"
+    works seal --key k --nonce n --label "$name" --in song --out card
+    works open --key k --label "$name" --in card
+    same song "$out"
+    refused 102 "--in $name" seal --key k --nonce n --in "$name" --out new
+    reason_is "$no_name"
+    refused 104 "--out $name.card" seal --key k --nonce n --in song --out "$name.card"
+    reason_is "$no_name"
+    refused 104 "--out $name" seal --key k --nonce n --in song --out "$name" --force
+    refused 104 "--drawer $name" start --drawer "$name" --reader 42
+    refused 104 "--drawer $name" draw --drawer "$name"
+    cd ..
+    rm -r here
+}
+
 names() {
     local name
     for name in 'two words' $'x\ncards: done' $'a\tb\r\e[31m\x7f\x01' -dash ';*\n%s%n' \
-        $'caf\xe9\xff\xc2\x9b31m\xc2\x85\xc3\x80x' "it's \$(touch new)\`ls\`: done (\"done\")"; do
+        $'caf\xc3\xa9\xc2\x9b31m\xc2\x85\xc3\x80x' "it's \$(touch new)\`ls\`: done (\"done\")"; do
         under_name "$name"
     done
+    under_no_text $'caf\xe9\xff\xc2\x9b31m\xc2\x85\xc3\x80x'
     mkdir 'a folder' 'a folder/-x'
     cd 'a folder/-x'
     setting

@@ -1,5 +1,5 @@
 // The office's tool: docs/cards.1 says what it does. It is thin: what matters is promised by the libraries below it,
-// and here inputs are read, outputs written and refusals put into words. the crate office hands its number on, and
+// and here inputs are read, outputs written and refusals put into words. The crate office hands its number on, and
 // cards_run is the program.
 #![tactic(auto)]
 
