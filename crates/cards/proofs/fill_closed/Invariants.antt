@@ -2,4 +2,4 @@ use Prim.Native.Nat.{◌-◌}
 use Rattle.cards.proofs.fill_closed.Given as goal
 
 abbrev pub decreases-loop-i : goal.decreases-loop-i
-decreases-loop-i l = 3 - l.i
+decreases-loop-i g l = 3 - l.i

@@ -4,7 +4,7 @@ use lib.ListN.{length}
 use Rattle.cards.proofs.inputs.raw_from.Given as goal
 
 abbrev pub invariant-loop-len : goal.invariant-loop-len
-invariant-loop-len l = (l.len ≤ length l.room) × (length l.room ≡ length l.initial.room)
+invariant-loop-len g l = (l.len ≤ length l.room) × (length l.room ≡ length l.initial.room)
 
 abbrev pub decreases-loop-len : goal.decreases-loop-len
-decreases-loop-len l = length l.room - l.len
+decreases-loop-len g l = length l.room - l.len
