@@ -5,7 +5,7 @@ use crate::system::System;
 use crate::{STANDARD_ERROR, names, options, refusal};
 use decimal::Decimal;
 use hexadecimal::Hex;
-use std::io::{Read, Result};
+use std::io::Read;
 use std::rt::Env;
 use words::first;
 
@@ -117,30 +117,13 @@ fn taken_from<R: Read>(o: Options, option: Opt, from: &mut R, room: &mut [u8]) -
 fn raw_from<R: Read>(from: &mut R, room: &mut [u8]) -> Taken {
     let mut len = 0;
     while len < room.len() {
-        let got = from.read(&mut room[len..]);
-        let more = count(got);
-        if more == 0 {
-            return ended(got, false, len);
+        match from.read(&mut room[len..]) {
+            Ok(0) => return gave(refusal::NO_REASON, false, len),
+            Ok(more) => len += more,
+            Err(e) => return gave(refusal::error(e), false, len),
         }
-        len += more;
     }
     gave(refusal::NO_REASON, false, len)
-}
-
-// How many bytes a read gave.
-fn count(got: Result<usize>) -> usize {
-    match got {
-        Ok(n) => n,
-        Err(_) => 0,
-    }
-}
-
-// The end of the input, or the error that a read answered.
-fn ended(got: Result<usize>, not_hex: bool, len: usize) -> Taken {
-    match got {
-        Ok(_) => gave(refusal::NO_REASON, not_hex, len),
-        Err(e) => gave(refusal::error(e), false, len),
-    }
 }
 
 fn gave(error: usize, not_hex: bool, len: usize) -> Taken {
@@ -158,10 +141,12 @@ fn hex_from<R: Read>(from: &mut R, room: &mut [u8]) -> Taken {
     let mut chunk = io::large_buffer();
     let mut left: usize = 16777217;
     while left > 0 {
-        let got = from.read(&mut chunk);
-        let n = count(got);
+        let n = match from.read(&mut chunk) {
+            Ok(n) => n,
+            Err(e) => return gave(refusal::error(e), false, h.len),
+        };
         if n == 0 {
-            return ended(got, !h.good || h.half, h.len);
+            return gave(refusal::NO_REASON, !h.good || h.half, h.len);
         }
         h = one_by_one(h, &chunk[..n], room);
         if !h.good || h.len == room.len() {

@@ -9,7 +9,7 @@ use crate::system::System;
 use crate::text::Text;
 use crate::{drawers, files, names, options, refusal};
 use std::fs::{OpenFile, Permissions};
-use std::io::{ErrorKind, Print, Result, Write};
+use std::io::{Error, ErrorKind, Print, Write};
 use std::os::unix::fs::PermissionsExt;
 use std::rt::{Env, Files};
 
@@ -69,7 +69,7 @@ pub(crate) fn claim_name<R: System>(
     o: Options,
     option: Opt,
     private: bool,
-) -> std::result::Result<Made<R::File>, Refusal> {
+) -> Result<Made<R::File>, Refusal> {
     let name = options::word_of(rt, o, option);
     let s = names::status(rt, name, false);
     if s.good {
@@ -88,7 +88,7 @@ fn with_scratch<R: System>(
     private: bool,
     there: bool,
     rights: Status,
-) -> std::result::Result<Made<R::File>, Refusal> {
+) -> Result<Made<R::File>, Refusal> {
     match names::new_scratch(rt, name, private) {
         Ok(scratch) => Ok(Made {
             there: there,
@@ -107,7 +107,7 @@ fn over<R: System>(
     name: Text,
     private: bool,
     s: Status,
-) -> std::result::Result<Made<R::File>, Refusal> {
+) -> Result<Made<R::File>, Refusal> {
     let why = kept_for(rt, name, s);
     let replaceable = why == refusal::NO_REASON && options::is_stream(option);
     if !options::given(o, Opt::Force) {
@@ -213,7 +213,7 @@ pub(crate) fn write<R: System>(
 }
 
 // What is refused where standard output did not take it all.
-pub(crate) fn printed(sent: Result<()>) -> Refusal {
+pub(crate) fn printed(sent: Result<(), Error>) -> Refusal {
     match sent {
         Ok(()) => refusal::none(),
         Err(e) => refusal::by_system(Opt::Out, refusal::NOT_WRITTEN, e),
@@ -322,7 +322,7 @@ fn rights_set<R: System>(rt: &R, file: &R::File, s: Status) -> bool {
         .is_ok()
 }
 
-fn sent<W: Write>(o: Options, option: Opt, to: &mut W, bytes: &[u8]) -> Result<()> {
+fn sent<W: Write>(o: Options, option: Opt, to: &mut W, bytes: &[u8]) -> Result<(), Error> {
     if options::in_hex(o, option) {
         return sent_in_hex(to, bytes);
     }
@@ -330,7 +330,7 @@ fn sent<W: Write>(o: Options, option: Opt, to: &mut W, bytes: &[u8]) -> Result<(
 }
 
 // One line.
-pub(crate) fn sent_in_hex<W: Write>(to: &mut W, bytes: &[u8]) -> Result<()> {
+pub(crate) fn sent_in_hex<W: Write>(to: &mut W, bytes: &[u8]) -> Result<(), Error> {
     let mut at = 0;
     while at < bytes.len() {
         let end = chunk_end(at, bytes.len());
@@ -348,7 +348,7 @@ fn chunk_end(at: usize, len: usize) -> usize
     if len - at > 2048 { at + 2048 } else { len }
 }
 
-fn chunk_sent<W: Write>(to: &mut W, bytes: &[u8]) -> Result<()> {
+fn chunk_sent<W: Write>(to: &mut W, bytes: &[u8]) -> Result<(), Error> {
     let mut digits = io::buffer();
     hexadecimal::spell(bytes, &mut digits);
     to.write_all(words::first(&digits, twice(bytes.len())))
