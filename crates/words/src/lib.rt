@@ -101,7 +101,8 @@ fn byte(s: &[u8], at: usize) -> u16
 }
 
 // Whether two slices have the same bytes. What differs is gathered and looked at once, at the end: time tells the
-// lengths, and at most the answer. It is not inlined: where it knows the lengths, a compiler looks at it piece by piece.
+// lengths, and at most the answer. It is not inlined: where it knows the lengths, a compiler looks at it piece by
+// piece.
 #[inline(never)]
 pub fn same(s: &[u8], t: &[u8]) -> bool
     ensures { result ≡ same s.now t.now }
