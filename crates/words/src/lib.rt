@@ -101,8 +101,7 @@ fn byte(s: &[u8], at: usize) -> u16
 }
 
 // Whether two slices have the same bytes. What differs is gathered and looked at once, at the end: time tells the
-// lengths, and at most the answer. It is not inlined: where it knows the lengths, a compiler looks at it piece by
-// piece.
+// lengths, and at most the answer.
 #[inline(never)]
 pub fn same(s: &[u8], t: &[u8]) -> bool
     ensures { result ≡ same s.now t.now }
@@ -110,6 +109,7 @@ pub fn same(s: &[u8], t: &[u8]) -> bool
     if s.len() != t.len() {
         return false;
     }
+    // Inlined where the lengths are known, it would be looked at piece by piece.
     let mut differing = 0;
     let mut i = 0;
     while i < s.len() {
