@@ -134,9 +134,22 @@ long_names() {
     echo old >"$name"
     works_silently seal --key k --nonce n --in song --out "$name" --force
     is 'the card' "$known_card" "$(hex_of "$name")"
+    long_letters
     names_too_long
     drawers_alike
     long_paths
+}
+
+# A drawer's name of 252 and of 255 bytes, which has a letter where what lies beside it is cut.
+long_letters() {
+    local name
+    for name in "$(printf '\xe6\x97\xa5%.0s' {1..84})" "a$(printf '\xc3\xa4%.0s' {1..127})"; do
+        works_silently start --drawer "$name" --reader 42
+        works draw --drawer "$name"
+        works draw --drawer "$name"
+        drawer_is "$name" 2a000000 0200000000000000
+        rm "$name"
+    done
 }
 
 # A path is never cut: with what is added to it, it leads somewhere or is refused, and nothing is made by another name.

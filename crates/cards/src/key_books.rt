@@ -24,6 +24,7 @@ struct Word {
     to: usize,
 }
 
+#[inline(never)] // its rooms would lie below every command's
 pub(crate) fn book(rt: &impl System, o: Options) -> Refusal {
     let mut entries = rooms::text();
     let mut room = rooms::book();
@@ -169,6 +170,7 @@ fn is_blank(b: u8) -> bool {
     b == b' ' || b == b'\t' || b == b'\n' || b == b'\r'
 }
 
+#[inline(never)] // its rooms would lie below every command's
 pub(crate) fn classes(rt: &impl System, o: Options) -> Refusal {
     let mut room = rooms::book();
     let b = inputs::read(rt, refusal::none(), o, Opt::Book, &mut room);

@@ -198,11 +198,15 @@ pub(crate) fn beside(name: Text, ending: &[u8; 5]) -> Text {
     let n = folder_end(first(&name.bytes, name.len));
     let t = text::and(
         text::of(first(&name.bytes, n)),
-        first(&b.bytes, shortened(b.len)),
+        first(&b.bytes, shortened(&b)),
     );
     text::and(t, ending)
 }
 
-fn shortened(len: usize) -> usize {
-    if len < 250 { len } else { 250 }
+// Before a letter that would be cut in two, since the library's names are text.
+fn shortened(b: &Text) -> usize {
+    match path(b) {
+        Ok(name) => name.floor_char_boundary(250),
+        Err(_) => { if b.len < 250 { b.len } else { 250 } }
+    }
 }
