@@ -10,6 +10,13 @@ use native.Mathlib.Omega.{arith}
 use lib.Dec.{T, eqb, leb, leb→le}
 use Rattle.words.proofs.Unique.{same}
 use Rattle.words.proofs.Tests.{and_left, and_right, cond_of}
+use Rattle.answers.specs.declared.Refusal.{Refusal}
+use Rattle.answers.specs.declared.Refusal.TheVariants.{KeyLength, NonceLength, DataLength, TextLength, TagLength}
+use Rattle.answers.specs.declared.Refusal.TheVariants.{RoomLength, WrongTag, StreamTooLong, DrawerSpent, BookForm}
+use Rattle.answers.specs.declared.Refusal.TheVariants.{ClassMissing, CutShort, CountOrLength, BadShuffle}
+use Rattle.answers.specs.declared.Refusal.TheVariants.{LeftOver, MoreThanDeclared, OutOfTurn, BatchForm}
+use Rattle.answers.specs.Told.{number_of_refusal, told}
+use Rattle.std.specs.Prelude.{Result, Ok, Err, IsOk, IsErr}
 use Rattle.answers.specs.Answers.{Row, number_of, Answer, answered, refuse, answer, applying, smallest}
 
 abbrev number : {A : Type 0} → Answer A → ℕ
@@ -110,6 +117,48 @@ module _ (rows : List Row) {r : ℕ} (er : r ≡ number_of rows) where
   pub judged-clear : T (numbered rows) → r ≡ 0 → Clear rows
   judged-clear n e =
       ⊎_elim (λ (c : Clear rows). c) (λ (g : Given rows). absurd (g.some n (sym er ∙ e))) (clear-or-given rows)
+
+-- ---- the refusal by its name that a judging function hands on
+
+-- none has the number that means done
+never-done : (why : Refusal) → T (not (eqb (number_of_refusal why) 0))
+never-done KeyLength = tt
+never-done NonceLength = tt
+never-done DataLength = tt
+never-done TextLength = tt
+never-done TagLength = tt
+never-done RoomLength = tt
+never-done WrongTag = tt
+never-done StreamTooLong = tt
+never-done DrawerSpent = tt
+never-done BookForm = tt
+never-done ClassMissing = tt
+never-done CutShort = tt
+never-done CountOrLength = tt
+never-done BadShuffle = tt
+never-done LeftOver = tt
+never-done MoreThanDeclared = tt
+never-done OutOfTurn = tt
+never-done BatchForm = tt
+
+pub refused-number : (why : Refusal) → number_of_refusal why ≡ 0 → ⊥
+refused-number why z = subst (λ (x : ℕ). T (not (eqb x 0))) z (never-done why)
+
+-- so an answer that has it is done
+pub done-is : {A : Type 0} (r : Result A Refusal) → told r ≡ 0 → IsOk r
+done-is (Ok x) z = refl
+done-is (Err why) z = absurd (refused-number why z)
+
+-- what a `?` hands on is answered, whatever memory is kept and whatever would follow
+pub handed-on : {A B : Type 0} (r : Result B Refusal) (rows : List Row) → told r ≡ number_of rows → IsErr r
+    → (kept : A) (follows : Answer A)
+    → answered (told r) kept ≡ refuse rows kept follows
+handed-on (Ok x) rows e i kept follows = absurd (subst (λ (b : Bool). T (not b)) i tt)
+handed-on (Err why) rows e i kept follows = judged-refused rows e kept follows (refused-number why)
+
+-- where it hands nothing on, no row applies
+pub goes-on : (rows : List Row) → 0 ≡ number_of rows → T (numbered rows) → Clear rows
+goes-on rows e n = judged-clear rows e n refl
 
 -- ---- "Where several apply, the smallest number is given."
 

@@ -22,7 +22,8 @@ use Rattle.drawer.specs.Sequence.{handed_out, after}
 use Rattle.drawer.proofs.Sequence.{handed-append, count-after, never-repeat, handed-out}
 use Rattle.batch.specs.Batch.{Inputs, Sealed, refusals, batching}
 use Rattle.batch.specs.Demands.{nonce_at, tag_at, card_at, with_texts, DoesNothing, Demands, Accepted, Unchanged}
-use Rattle.batch.proofs.Entry.{Allowed, each_card, done-is}
+use Rattle.batch.specs.Steps.{Allowed}
+use Rattle.batch.proofs.Entry.{each_card, done-is}
 use Rattle.batch.proofs.Cards.{next-is, Fits, each-singly, rest-kept}
 
 pub does-nothing : DoesNothing

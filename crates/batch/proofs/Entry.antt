@@ -1,27 +1,16 @@
 -- The entry point: a batch that is refused, and one that is not.
-use mathlib.Core.Path.{◌≡◌, sym, ap, ◌∙◌}
-use mathlib.Core.Bool.{false}
+use mathlib.Core.Path.{◌≡◌, refl, sym, ap, ◌∙◌}
 use mathlib.Core.List.{List}
-use Prim.Native.Nat.{ℕ, ◌*◌, ◌≤◌}
+use Prim.Native.Nat.{ℕ}
 use borrow.Author.Tests.{eqb-true, eqb-false, not-false, ltb-false}
-use lib.ListN.{length}
+use Rattle.std.specs.Prelude.{Err}
+use Rattle.answers.specs.declared.Refusal.{Refusal}
+use Rattle.answers.specs.Told.{number_of_refusal}
 use Rattle.answers.specs.Answers.{number_of, answered}
-use Rattle.answers.proofs.Answers.{Clear, refuse-clear, judged-refused, judged-clear, answer-done}
-use Rattle.lengths.specs.Lengths.{total, any_above}
+use Rattle.answers.proofs.Answers.{Clear, refuse-clear, handed-on, goes-on, answer-done}
 use Rattle.drawer.specs.declared.Drawer.{Drawer}
-use Rattle.drawer.specs.Drawer.{remaining}
 use Rattle.batch.specs.Batch.{Inputs, Sealed, singly, refusals, batching, Batching}
-
--- what holds of a batch that is not refused
-pub record Allowed (b : Inputs) (room tags : List ℕ) : Type 0 where
-  pub key-16 : length b.key ≡ 16
-  pub data-most : length b.«data» ≤ 65536
-  pub none-long : any_above 1048576 b.lengths ≡ false
-  pub tags-16 : length tags ≡ 16 * length b.lengths
-  pub room_fits : length b.texts ≤ length room
-  pub draws-left : length b.lengths ≤ remaining b.drawer
-  pub some : length b.lengths ≡ 0 → ⊥
-  pub whole : total b.lengths ≡ length b.texts
+use Rattle.batch.specs.Steps.{Allowed}
 
 pub allowed : (b : Inputs) (room tags : List ℕ) → Clear (refusals b room tags) → Allowed b room tags
 allowed b room tags (key, («data», (long, (tag, (fits, (left, (none, (more, (sum, end))))))))) =
@@ -40,22 +29,24 @@ allowed b room tags (key, («data», (long, (tag, (fits, (left, (none, (more, (s
 abbrev pub each_card : Inputs → List ℕ → List ℕ → Sealed
 each_card b room tags = singly b.key b.«data» b.texts b.lengths b.drawer room tags
 
--- ---- the number that the code judges it by
+-- ---- what the code judges it by
 
-module _ (b : Inputs) (room tags : List ℕ) {r : ℕ} (er : r ≡ number_of (refusals b room tags)) where
-  pub refused-is : (r ≡ 0 → ⊥) → Batching r b room tags room tags b.drawer
+module _ (b : Inputs) (room tags : List ℕ) where
+  pub refused-is : (why : Refusal) → number_of_refusal why ≡ number_of (refusals b room tags)
+      → Batching (number_of_refusal why) b room tags room tags b.drawer
   unfolding batching
-  refused-is = judged-refused (refusals b room tags) er _ _
+  refused-is why e = handed-on {B = Unit {0}} (Err why) (refusals b room tags) e refl _ _
 
-  pub not-refused : r ≡ 0 → Allowed b room tags
-  not-refused e = allowed b room tags (judged-clear (refusals b room tags) er tt e)
+  module _ (e : 0 ≡ number_of (refusals b room tags)) where
+    pub not-refused : Allowed b room tags
+    not-refused = allowed b room tags (goes-on (refusals b room tags) e tt)
 
-  pub sealed-is : {room' tags' : List ℕ} {next : Drawer} → r ≡ 0
-      → ◌≡◌ {A = Sealed} (record { room = room'; tags = tags'; next = next }) (each_card b room tags)
-      → Batching 0 b room tags room' tags' next
-  unfolding batching
-  sealed-is e es =
-      ap (answered 0) es ∙ sym (refuse-clear _ _ (refusals b room tags) (judged-clear (refusals b room tags) er tt e))
+    pub sealed-is : {room' tags' : List ℕ} {next : Drawer}
+        → ◌≡◌ {A = Sealed} (record { room = room'; tags = tags'; next = next }) (each_card b room tags)
+        → Batching 0 b room tags room' tags' next
+    unfolding batching
+    sealed-is es =
+        ap (answered 0) es ∙ sym (refuse-clear _ _ (refusals b room tags) (goes-on (refusals b room tags) e tt))
 
 -- ---- a batch that is done
 

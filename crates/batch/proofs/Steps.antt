@@ -1,37 +1,23 @@
 -- What the code makes, from what its calls ensure.
 use mathlib.Core.Path.{◌≡◌, sym, ap, ap₂, ◌∙◌}
-use mathlib.Core.Bool.{Bool, ◌&&◌}
 use mathlib.Core.List.{List, ◌++◌, append_assoc}
-use Prim.Native.Nat.{ℕ, suc, ◌+◌, ◌-◌, ◌*◌, ◌/◌, ◌%◌, ◌≤◌, ◌<◌}
-use native.Mathlib.Decide.{ℕ_discrete}
+use Prim.Native.Nat.{ℕ, suc, ◌+◌, ◌-◌, ◌*◌, ◌≤◌, ◌<◌}
 use native.Mathlib.Omega.{arith}
-use lib.Dec.{eqb}
 use lib.ListN.{length, get_or, take, drop, length-append, take-append-drop, drop_of_length-le}
 use lib.Seq.{drop-cons, drop-drop, take_at, drop_at, length-take-le}
 use borrow.Rule.Slice.PartMut.{put_mid, Post-is}
-use borrow.Author.Tests.{eq-eqb, ne_eqb}
 use Rattle.words.specs.Block.{part}
 use Rattle.words.proofs.Lists.{length_part}
-use Rattle.words.proofs.Tests.{agree}
 use Rattle.answers.specs.Answers.{Answer}
 use Rattle.hyena.specs.Entry as hyena
 use Rattle.hyena.specs.Entry.{inputs, sealing, Sealing, gift}
-use Rattle.hyena.proofs.Entry.{length-sealed}
+use Rattle.hyena.proofs.Entry.{length-sealed, sealing-done}
 use Rattle.drawer.specs.declared.Drawer.{Drawer}
-use Rattle.drawer.specs.Drawer.{for_nonce, Handed, drawing, Drawing}
+use Rattle.drawer.specs.Drawer.{for_nonce, remaining, moved, Handed, drawing, Drawing}
+use Rattle.drawer.proofs.Sequence.{drawing-done}
+use Rattle.drawer.proofs.Steps.{length-nonce}
 use Rattle.batch.specs.Batch.{Sealed, singly}
-use Rattle.batch.specs.Steps.{placed, after_card, from_card}
-
--- ---- the refusals
-
-pub sixteen-each-is : (t n : ℕ) → (eqb (t % 16) 0 && eqb (t / 16) n) ≡ eqb t (16 * n)
-sixteen-each-is t n =
-    elim (ℕ_discrete (t % 16) 0) [
-      | yes e ↦ ap (λ (u : Bool). u && eqb (t / 16) n) (eq-eqb (t % 16) 0 e)
-          ∙ agree (t / 16) n t (16 * n) (λ f. omega arith) (λ f. omega arith)
-      | no k ↦ ap (λ (u : Bool). u && eqb (t / 16) n) (ne_eqb (t % 16) 0 k)
-          ∙ sym (ne_eqb t (16 * n) (λ f. k (omega arith)))
-    ]
+use Rattle.batch.specs.Steps.{placed, one_card, after_card, from_card}
 
 -- ---- room and tags
 
@@ -55,33 +41,73 @@ module _ (s : List ℕ) (at n : ℕ) (t : List ℕ) where
 
 -- ---- a card
 
-module _ (key «data» texts : List ℕ) (i at n : ℕ) where
-  pub card-is : (room tags : List ℕ) (d : Drawer) {m r : ℕ} {nonce p q : List ℕ} {next : Drawer}
-      → Drawing for_nonce m d nonce next
-      → Sealing gift r (inputs key nonce «data» (take (at + n - at) (drop at texts)))
-      (take (at + n - at) (drop at room)) (take (16 * i + 16 - 16 * i) (drop (16 * i) tags)) p q
-      → ◌≡◌ {A = Sealed} (record {
-        room = put_mid at (at + n - at) room p;
-        tags = put_mid (16 * i) (16 * i + 16 - 16 * i) tags q;
-        next = next;
-      }) (after_card key «data» texts i at n (record { room = room; tags = tags; next = d }))
-  card-is room tags d {m} {r} {nonce} {p} {q} {next} ed es =
-      let en : at + n - at ≡ n = omega arith in
-      let et : 16 * i + 16 - 16 * i ≡ 16 = omega arith in
-      let es' : Sealing gift r (inputs key nonce «data» (part texts at n)) (part room at n) (part tags (16 * i) 16) p
-      q =
-      es ∙ ap₂ (λ (k l : ℕ). sealing gift (inputs key nonce «data» (take k (drop at texts))) (take k (drop at room))
-      (take l (drop (16 * i) tags))) en et in
-      let whole : List ℕ → List ℕ → Drawer → Sealed =
-      λ c g e. record { room = placed room at n c; tags = placed tags (16 * i) 16 g; next = e } in
+-- where a draw is left it is done, and the next drawer has one fewer
+module _ (d : Drawer) (h : 1 ≤ remaining d) where
+  pub draw-done : {m : ℕ} {nonce : List ℕ} {next : Drawer} → Drawing for_nonce m d nonce next → m ≡ 0
+  draw-done e = ap (λ (a : Answer Handed). a.number) (e ∙ drawing-done d h)
+
+  pub one-fewer : remaining (drawing for_nonce d).outcome.next + 1 ≡ remaining d
+  one-fewer =
+      let e : (drawing for_nonce d).outcome.next ≡ moved 1 d =
+      ap (λ (a : Answer Handed). a.outcome.next) (drawing-done d h) in
+      rw e (omega arith)
+
+  pub length-drawn : {nonce : List ℕ} {next : Drawer} → Drawing for_nonce 0 d nonce next → length nonce ≡ 12
+  length-drawn e =
+      ap (λ (a : Answer Handed). length a.outcome.bytes) (e ∙ drawing-done d h) ∙ length-nonce d
+
+module _ (key «data» text : List ℕ) (d : Drawer) (room tag : List ℕ) {r : ℕ} {nonce p q : List ℕ} {next : Drawer}
+    (ed : Drawing for_nonce 0 d nonce next) (es : Sealing gift r (inputs key nonce «data» text) room tag p q) where
+  pub seal-done : length key ≡ 16 → length «data» ≤ 65536 → length text ≤ 1048576 → 1 ≤ remaining d
+      → length room ≡ length text → length tag ≡ 16
+      → r ≡ 0
+  seal-done hk ha ht hd hr hg =
+      ap (λ (a : Answer hyena.Sealed). a.number)
+      (es ∙ sealing-done gift (inputs key nonce «data» text) tag room hk (length-drawn d hd ed) ha ht hg (omega arith))
+
+  pub card-is : ◌≡◌ {A = Sealed} (record { room = p; tags = q; next = next }) (one_card key «data» text d room tag)
+  card-is =
       let by-draw : Answer Handed → Sealed = λ a.
-      let c = (sealing gift (inputs key a.outcome.bytes «data» (part texts at n)) (part room at n)
-      (part tags (16 * i) 16)).outcome in
-      whole c.room c.tag a.outcome.next in
-      ap₂ (λ (c g : List ℕ). record { room = c; tags = g; next = next }) (placed-is room at n p)
-      (placed-is tags (16 * i) 16 q)
-      ∙ ap (λ (a : Answer hyena.Sealed). whole a.outcome.room a.outcome.tag next) es'
+      let c = (sealing gift (inputs key a.outcome.bytes «data» text) room tag).outcome in
+      record { room = c.room; tags = c.tag; next = a.outcome.next } in
+      ap (λ (a : Answer hyena.Sealed). record { room = a.outcome.room; tags = a.outcome.tag; next = next }) es
       ∙ ap by-draw ed
+
+-- its parts of texts, room and tags are as long as they are to be
+pub card-asks : (texts : List ℕ) (at n i : ℕ) (room tags : List ℕ) → at + n ≤ length texts → at + n ≤ length room
+    → 16 * i + 16 ≤ length tags
+    → (length (take (at + n - at) (drop at texts)) ≡ n)
+    × (length (take (at + n - at) (drop at room)) ≡ length (take (at + n - at) (drop at texts)))
+    × (length (take (16 * i + 16 - 16 * i) (drop (16 * i) tags)) ≡ 16)
+card-asks texts at n i room tags ht hr hg =
+    let en : at + n - at ≡ n = omega arith in
+    let et : 16 * i + 16 - 16 * i ≡ 16 = omega arith in
+    let lt = length_part texts at n (omega arith) in
+    rw (en, et) (lt, length_part room at n (omega arith) ∙ sym lt, length_part tags (16 * i) 16 (omega arith))
+
+-- it is sealed into its parts of room and tags
+pub card-placed : (key «data» texts : List ℕ) (i at n : ℕ) (room tags : List ℕ) (d : Drawer) {p q : List ℕ}
+    {next : Drawer}
+    → ◌≡◌ {A = Sealed} (record { room = p; tags = q; next = next })
+    (one_card key «data» (take (at + n - at) (drop at texts)) d (take (at + n - at) (drop at room))
+    (take (16 * i + 16 - 16 * i) (drop (16 * i) tags)))
+    → ◌≡◌ {A = Sealed} (record {
+      room = put_mid at (at + n - at) room p;
+      tags = put_mid (16 * i) (16 * i + 16 - 16 * i) tags q;
+      next = next;
+    }) (after_card key «data» texts i at n (record { room = room; tags = tags; next = d }))
+card-placed key «data» texts i at n room tags d {p} {q} {next} e =
+    let en : at + n - at ≡ n = omega arith in
+    let et : 16 * i + 16 - 16 * i ≡ 16 = omega arith in
+    let e' = e ∙ ap₂ (λ (k l : ℕ). one_card key «data» (take k (drop at texts)) d (take k (drop at room))
+    (take l (drop (16 * i) tags))) en et in
+    ap₂ (λ (c g : List ℕ). record { room = c; tags = g; next = next }) (placed-is room at n p)
+    (placed-is tags (16 * i) 16 q)
+    ∙ ap (λ (s : Sealed). record {
+      room = placed room at n s.room;
+      tags = placed tags (16 * i) 16 s.tags;
+      next = s.next;
+    }) e'
 
 -- ---- one card after another
 

@@ -1,3 +1,4 @@
 pub mod Batch
+pub mod Next
 pub mod Steps
 pub mod Demands

@@ -8,7 +8,7 @@ use lib.Bits.{bit_xor}
 use lib.Seq.{sets}
 use Rattle.words.specs.declared.Block.{Block}
 use Rattle.words.specs.Block.{halves, part, loaded}
-use Rattle.words.specs.Bytes.{Bytes, number}
+use Rattle.words.specs.Bytes.{Bytes, number, filled}
 use Rattle.words.specs.Digits.{tab}
 use Rattle.answers.specs.Answers.{answered}
 use Rattle.answers.proofs.Answers.{Clear}
@@ -46,14 +46,15 @@ pub word-is : (s : List ℕ) → Bytes s → (i : ℕ) → i < 16 → {b : Block
     → b.lo ≡ number (part (padded s) (8 * i) 8)
 word-is s h i k e = loaded_word s h (8 * i) 8 e (omega arith) ∙ sym (number-filled (8 * i) 8 128 s (omega arith))
 
--- a whole block, and what is there of one
-pub whole_part : (s : List ℕ) (at end : ℕ) → end ≡ at + 128 → take (end - at) (drop at s) ≡ part s at 128
-whole_part s at end e = let k : end - at ≡ 128 = omega arith in ap (λ (n : ℕ). take n (drop at s)) k
+-- what lies behind the block does not count
+filled-take : (n : ℕ) (s : List ℕ) → filled 0 n (take n s) ≡ filled 0 n s
+unfolding filled
+filled-take zero s = refl
+filled-take (suc n) [] = refl
+filled-take (suc n) (b ∷ s) = ap (λ (l : List ℕ). b ∷ l) (filled-take n s)
 
-pub rest_part : (s : List ℕ) (at : ℕ) → length s - at < 128 → take (length s - at) (drop at s) ≡ part s at 128
-rest_part s at h =
-    take_all (length s - at) (drop at s) (simp length-drop (omega arith))
-    ∙ sym (take_all 128 (drop at s) (simp length-drop (omega arith)))
+pub padded-take : (s : List ℕ) → padded (take 128 s) ≡ padded s
+padded-take s = filled-take 128 s
 
 pub compress-is : (h b m v w r : List ℕ) (t : ℕ) (last : Bool) → m ≡ words 8 16 b → v ≡ vector h t last → w ≡ rounds m v
     → r ≡ folded h w → r ≡ compress h b t last
@@ -66,35 +67,36 @@ length-compress h b t last = length-tab _ 0 8
 
 -- ---- the run over the data
 
-pub absorb-first : (h s : List ℕ) (t : ℕ) → absorbed ((length s - 0 - 1) / 128) h (t + 0) (drop 0 s)
-    ≡ absorbed ((length s - 1) / 128) h t s
-absorb-first h s t =
-    let e1 : length s - 0 - 1 ≡ length s - 1 = omega arith in
-    let e2 : t + 0 ≡ t = omega arith in
-    rw (e1, e2)
+-- what is lent from place k on
+rest_lent : (s : List ℕ) (k : ℕ) → take (length s - k) (drop k s) ≡ drop k s
+rest_lent s k = take_all (length s - k) (drop k s) (simp length-drop (omega arith))
 
--- one block on: what the rest gives from here is what it gives from the start
-pub absorb-next : (s h h' r : List ℕ) (t i : ℕ) → i + 128 < length s
-    → h' ≡ compress h (padded (part s i 128)) (t + i + 128) false
-    → absorbed ((length s - i - 1) / 128) h (t + i) (drop i s) ≡ r
-    → absorbed ((length s - (i + 128) - 1) / 128) h' (t + (i + 128)) (drop (i + 128) s) ≡ r
+-- block i of n before the last: what the rest gives from there is what it gives from the start
+pub absorb-next : (s h h' r : List ℕ) (t i n : ℕ) → n ≡ (length s - 1) / 128 → i < n
+    → h' ≡ compress h (padded (take (length s - 128 * i) (drop (128 * i) s))) (t + 128 * i + 128) false
+    → absorbed (n - i) h (t + 128 * i) (drop (128 * i) s) ≡ r
+    → absorbed (n - (i + 1)) h' (t + 128 * (i + 1)) (drop (128 * (i + 1)) s) ≡ r
 unfolding absorbed
-absorb-next s h h' r t i k eh e =
-    let ek : (length s - i - 1) / 128 ≡ suc ((length s - (i + 128) - 1) / 128) = omega arith in
-    let et : t + (i + 128) ≡ t + i + 128 = omega arith in
-    let lb : length (part s i 128) ≡ 128 = simp (length-take, length-drop) (omega arith) in
-    rw (eh, filled-full 0 128 (part s i 128) lb, et, ← drop-drop 128 i s) (rw ek at e)
+absorb-next s h h' r t i n en k eh e =
+    let d = drop (128 * i) s in
+    let ek : n - i ≡ suc (n - (i + 1)) = omega arith in
+    let et : t + 128 * (i + 1) ≡ t + 128 * i + 128 = omega arith in
+    let ei : 128 * (i + 1) ≡ 128 * i + 128 = omega arith in
+    let lb : length (take 128 d) ≡ 128 = simp (length-take, length-drop) (omega arith) in
+    let eb : padded d ≡ take 128 d = sym (padded-take d) ∙ filled-full 0 128 (take 128 d) lb in
+    rw (eh, rest_lent s (128 * i), eb, et, ei, ← drop-drop 128 (128 * i) s) (rw ek at e)
 
-pub absorb-last : (s h h' r : List ℕ) (t i : ℕ) → i ≤ length s → length s ≤ i + 128
-    → h' ≡ compress h (padded (part s i 128)) (t + length s) true
-    → absorbed ((length s - i - 1) / 128) h (t + i) (drop i s) ≡ r → h' ≡ r
+pub absorb-last : (s h h' h₀ : List ℕ) (t i n : ℕ) → n ≡ (length s - 1) / 128 → i ≡ n
+    → h' ≡ compress h (padded (take (length s - 128 * n) (drop (128 * n) s))) (t + length s) true
+    → absorbed (n - i) h (t + 128 * i) (drop (128 * i) s) ≡ absorbed n h₀ t s
+    → h' ≡ absorbed ((length s - 1) / 128) h₀ t s
 unfolding absorbed
-absorb-last s h h' r t i k l eh e =
-    let ek : (length s - i - 1) / 128 ≡ 0 = omega arith in
-    let et : t + i + (length s - i) ≡ t + length s = omega arith in
-    let ea : part s i 128 ≡ drop i s = take_all 128 (drop i s) (simp length-drop (omega arith)) in
-    let e' = rw ek at e in
-    rw (eh, ea) (rw (length-drop i s, et) at e')
+absorb-last s h h' h₀ t i n en ei eh e =
+    let ek : n - i ≡ 0 = omega arith in
+    let et : t + 128 * n + (length s - 128 * n) ≡ t + length s = omega arith in
+    let e' = rw (ek, ei) at e in
+    let e₂ = rw (length-drop (128 * n) s, et) at e' in
+    rw (← en) (eh ∙ rw (rest_lent s (128 * n)) e₂)
 
 length-absorbed : (k : ℕ) (h : List ℕ) (t : ℕ) (d : List ℕ) → length (absorbed k h t d) ≡ 8
 unfolding absorbed
@@ -136,10 +138,7 @@ module _ (key text h : List ℕ) (nn : ℕ) (some : length key ≡ 0 → ⊥) (s
   long : length (padded key) ≡ 128
   long = length-filled 0 128 key
 
-  alone : part key 0 128 ≡ key
-  alone = take_all 128 key (omega arith)
-
-  pub alone-is : {r : List ℕ} → length text ≡ 0 → r ≡ compress h (padded (part key 0 128)) 128 true
+  pub alone-is : {r : List ℕ} → length text ≡ 0 → r ≡ compress h (padded key) 128 true
       → r ≡ hashed key text nn
   unfolding hashed absorbed
   alone-is {r} et er =
@@ -149,11 +148,11 @@ module _ (key text h : List ℕ) (nn : ℕ) (some : length key ≡ 0 → ⊥) (s
       let last : absorbed 0 st 0 p ≡ compress st p 128 true =
       ap (λ (n : ℕ). compress st (padded p) (0 + n) true) long
       ∙ ap (λ (l : List ℕ). compress st l 128 true) (filled-full 0 128 p long) in
-      er ∙ ap (λ (l : List ℕ). compress h (padded l) 128 true) alone ∙ ap (λ (l : List ℕ). compress l p 128 true) eh
+      er ∙ ap (λ (l : List ℕ). compress l p 128 true) eh
       ∙ sym (ap (λ (l : List ℕ). absorbed ((length l - 1) / 128) st 0 l) e
       ∙ ap (λ (n : ℕ). absorbed ((n - 1) / 128) st 0 p) long ∙ last)
 
-  pub both-are : {c r : List ℕ} → (length text ≡ 0 → ⊥) → c ≡ compress h (padded (part key 0 128)) 128 false
+  pub both-are : {c r : List ℕ} → (length text ≡ 0 → ⊥) → c ≡ compress h (padded key) 128 false
       → r ≡ absorbed ((length text - 1) / 128) c 128 text
       → r ≡ hashed key text nn
   unfolding hashed
@@ -165,7 +164,7 @@ module _ (key text h : List ℕ) (nn : ℕ) (some : length key ≡ 0 → ⊥) (s
       let k = (length text - 1) / 128 in
       let next : absorbed (suc k) st 0 (p ++ text) ≡ absorbed k (compress st p 128 false) 128 text =
       absorbed-next k st (p ++ text) 0 ∙ rw (take_at p text 128 long, drop_at p text 128 long) in
-      er ∙ rw (ec, alone, eh, with_key-is, ek) (sym next)
+      er ∙ rw (ec, eh, with_key-is, ek) (sym next)
 
 -- ---- the digest
 

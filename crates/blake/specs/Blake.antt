@@ -7,7 +7,6 @@ use Rattle.words.specs.Digits.{sum_mod, rotr, tab}
 use Rattle.words.specs.Square.{square}
 use Rattle.words.specs.Iterate.{iterate}
 use Rattle.words.specs.Words.{words, unwords}
-use Rattle.blake.specs.declared.Quad.{Quad}
 
 -- ---- 2.6, the initialization vector
 
@@ -38,7 +37,7 @@ sigma r i = slice_index sigma_table (r % 10 * 16 + i)
 -- ---- 3.1, the mixing function G: a += b + x; d = (d ^ a) >>> 32; c += d; b = (b ^ c) >>> 24; a += b + y; d = (d ^ a)
 -- >>> 16; c += d; b = (b ^ c) >>> 63
 
-unfoldable pub mixed : ℕ → ℕ → ℕ → ℕ → ℕ → ℕ → Quad
+unfoldable pub mixed : ℕ → ℕ → ℕ → ℕ → ℕ → ℕ → ℕ × ℕ × ℕ × ℕ
 mixed a b c d x y =
     let a₁ = sum_mod 64 (sum_mod 64 a b) x in
     let d₁ = rotr 64 32 (bit_xor d a₁) in
@@ -48,21 +47,21 @@ mixed a b c d x y =
     let d₂ = rotr 64 16 (bit_xor d₁ a₂) in
     let c₂ = sum_mod 64 c₁ d₂ in
     let b₂ = rotr 64 63 (bit_xor b₁ c₂) in
-    record { a = a₂; b = b₂; c = c₂; d = d₂ }
+    (a₂, b₂, c₂, d₂)
 
 -- the word of the message m that round r takes i-th
 unfoldable pub word_at : List ℕ → ℕ → ℕ → ℕ
 word_at m r i = slice_index m (sigma r i)
 
 -- the n-th mixing of round r takes the words 2n and 2n + 1
-unfoldable pub mixing : List ℕ → ℕ → ℕ → ℕ → ℕ → ℕ → ℕ → Quad
+unfoldable pub mixing : List ℕ → ℕ → ℕ → ℕ → ℕ → ℕ → ℕ → ℕ × ℕ × ℕ × ℕ
 mixing m r n a b c d = mixed a b c d (word_at m r (2 * n)) (word_at m r (2 * n + 1))
 
 -- ---- 3.2, the compression function F
 
 -- round r on the message m: the four columns, then the four diagonals
 unfoldable pub round : List ℕ → ℕ → List ℕ → List ℕ
-round m r v = square (λ q. q.a) (λ q. q.b) (λ q. q.c) (λ q. q.d) (mixing m r) v
+round m r v = square (λ q. q.0) (λ q. q.1) (λ q. q.2) (λ q. q.3) (mixing m r) v
 
 -- twelve rounds
 abbrev pub rounds : List ℕ → List ℕ → List ℕ

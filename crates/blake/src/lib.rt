@@ -1,53 +1,47 @@
 // BLAKE2b with a key.
 #![tactic(auto)]
 
-ghost use Rattle.std.specs.Prelude.{◌≡◌, ◌+◌, ◌-◌, ◌*◌, ◌/◌, ◌<◌, ◌≤◌, true, false, length, if◌then◌else◌, bit_xor};
+ghost use Rattle.std.specs.Prelude.{◌≡◌, ◌+◌, ◌-◌, ◌/◌, ◌%◌, ◌<◌, ◌≤◌, length};
 ghost use Rattle.std.proofs.lemmas.List.Edits.{sets};
-ghost use Rattle.words.specs.Block.{part};
-ghost use Rattle.words.specs.Digits.{rotr};
 ghost use Rattle.answers.specs.Answers.{number_of};
+ghost use Rattle.answers.specs.Told.{told};
 ghost use Rattle.words.specs.Words.{words, unwords};
-ghost use Rattle.blake.specs.Blake.{sigma_table, sigma, mixed, word_at, mixing, round, rounds, vector, folded};
+ghost use Rattle.blake.specs.Blake.{sigma, mixed, word_at, mixing, round, rounds, vector, folded};
 ghost use Rattle.blake.specs.Blake.{compress, padded, start_chain, absorbed, hashed};
 ghost use Rattle.blake.specs.Entry.{rows, Digesting};
 
-use answers::row;
-use std::num::wrapping_add_u64;
-use words::Block;
+use answers::{Refusal, refuse};
+use tables::{IV, SIGMA};
+use words::{Block, Step};
 
 mod tables;
 
-// Fills room with the digest of text under key, as long as the room. Answers 0, or the refusal.
-pub fn digest(key: &[u8], text: &[u8], room: &mut [u8]) -> u32
-    ensures { Digesting result key.now text.now room.old room.new }
+// Fills room with the digest of text under key, as long as the room.
+pub fn digest(key: &[u8], text: &[u8], room: &mut [u8]) -> Result<(), Refusal>
+    ensures { Digesting (told result) key.now text.now room.old room.new }
 {
-    let refused = refusal(key.len(), text.len(), room.len());
-    if refused != 0 {
-        return refused;
-    }
+    refusal(key.len(), text.len(), room.len())?;
     let h = hash_of(key, text, room.len());
-    put_words(room, h);
-    0
+    put_words(room, &h);
+    Ok(())
 }
 
-// The refusal that the lengths call for, or 0: the rows from the last up.
-fn refusal(key: usize, text: usize, room: usize) -> u32
-    ensures { result ≡ number_of (rows key text room) }
+// The refusal that the lengths call for: the rows, as they stand.
+fn refusal(key: usize, text: usize, room: usize) -> Result<(), Refusal>
+    ensures { told result ≡ number_of (rows key text room) }
 {
-    let six = row(room == 0, 6, row(room > 64, 6, 0));
-    let four = row(text > 1048576, 4, six);
-    row(key > 64, 1, four)
+    refuse(key > 64, Refusal::KeyLength)?;
+    refuse(text > 1048576, Refusal::TextLength)?;
+    refuse(room == 0, Refusal::RoomLength)?;
+    refuse(room > 64, Refusal::RoomLength)
 }
 
 // Writes the words of h to the front of room, as far as it goes.
-fn put_words(room: &mut [u8], h: [u64; 8])
-    ensures { room.new ≡ sets room.old 0 (unwords 8 h) }
+fn put_words(room: &mut [u8], h: &[u64; 8])
+    ensures { room.new ≡ sets room.old 0 (unwords 8 h.now) }
 {
-    let mut i: usize = 0;
-    while i < 8 {
-        let x = h[i];
-        words::store(room, 8 * i, 8, Block { lo: x, hi: 0 });
-        i += 1;
+    for (i, x) in h.iter().enumerate() {
+        words::store(room, 8 * i, 8, Block::from(*x));
     }
 }
 
@@ -56,78 +50,82 @@ fn hash_of(key: &[u8], text: &[u8], nn: usize) -> [u64; 8]
     requires { (length key.now ≤ 64) × (length text.now ≤ 1048576) × (nn ≤ 64) }
     ensures { result ≡ hashed key.now text.now nn }
 {
-    let h = start_chain(key.len(), nn);
-    if key.len() == 0 {
-        return absorb(h, 0, text);
+    let mut h = start_chain(key.len(), nn);
+    if key.is_empty() {
+        absorb(&mut h, 0, text);
+        return h;
     }
-    if text.len() == 0 {
-        return compress_of(h, key, 0, 128, true);
+    if text.is_empty() {
+        compress_in(&mut h, key, 128, true);
+        return h;
     }
-    absorb(compress_of(h, key, 0, 128, false), 128, text)
+    compress_in(&mut h, key, 128, false);
+    absorb(&mut h, 128, text);
+    h
 }
 
 fn start_chain(kk: usize, nn: usize) -> [u64; 8]
     requires { (kk ≤ 64) × (nn ≤ 64) }
     ensures { result ≡ start_chain kk nn }
 {
-    let mut h = tables::IV;
-    h[0] = h[0] ^ (0x01010000 ^ (kk as u64 * 256) ^ nn as u64);
+    // `as`, here and below: the number is proved to fit, so that `try_from` would add an error that cannot come.
+    let mut h = IV;
+    h[0] ^= 0x01010000 ^ (kk as u64 * 256) ^ nn as u64;
     h
 }
 
-// All of s, which ends the data, after t bytes.
-fn absorb(h: [u64; 8], t: u64, s: &[u8]) -> [u64; 8]
+// All of s, which ends the data, after t bytes: the blocks before the last, and the last.
+fn absorb(h: &mut [u64; 8], t: u64, s: &[u8])
     requires { (length s.now ≤ 1048576) × (t ≤ 128) }
-    ensures { result ≡ absorbed ((length s.now - 1) / 128) h t s.now }
+    ensures { h.new ≡ absorbed ((length s.now - 1) / 128) h.old t s.now }
 {
-    let mut c = h;
-    let mut i = 0;
-    while i + 128 < s.len() {
-        let d = compress_of(c, s, i, t + i as u64 + 128, false);
-        c = d;
-        i += 128;
+    // By number, and not by `chunks`: each block is compressed with the count of what came before it.
+    let n = s.len().saturating_sub(1) / 128;
+    for i in 0..n {
+        let at = 128 * i;
+        compress_in(h, &s[at..], t + at as u64 + 128, false);
     }
-    compress_of(c, s, i, t + s.len() as u64, true)
+    let at = 128 * n;
+    compress_in(h, &s[at..], t + s.len() as u64, true);
 }
 
-// The block of s from at on, or what is there of it with zeros.
-fn compress_of(h: [u64; 8], s: &[u8], at: usize, t: u64, last: bool) -> [u64; 8]
-    requires { at ≤ length s.now }
-    ensures { result ≡ compress h (padded (part s.now at 128)) t last }
+// The first block of s, or what is there of it with zeros.
+fn compress_in(h: &mut [u64; 8], s: &[u8], t: u64, last: bool)
+    ensures { h.new ≡ compress h.old (padded s.now) t last }
 {
-    let m = words_of(s, at);
-    let v = rounds_of(&m, vector_of(h, t, last));
-    folded_of(h, v)
+    let m = words_of(s);
+    let mut v = vector_of(h, t, last);
+    rounds_of(&m, &mut v);
+    fold_in(h, &v);
 }
 
 // Its words. Where the whole block is there, it is lent as 128 bytes, and the compiler sees that each word is.
-fn words_of(s: &[u8], at: usize) -> [u64; 16]
-    requires { at ≤ length s.now }
-    ensures { result ≡ words 8 16 (padded (part s.now at 128)) }
+fn words_of(s: &[u8]) -> [u64; 16]
+    ensures { result ≡ words 8 16 (padded s.now) }
 {
-    if s.len() - at >= 128 {
-        let end = at + 128;
-        return words_in(&s[at..end]);
+    if s.len() >= 128 {
+        return words_in(&s[..128]);
     }
-    words_in(&s[at..])
+    words_in(s)
 }
 
 fn words_in(s: &[u8]) -> [u64; 16]
     ensures { result ≡ words 8 16 (padded s.now) }
 {
-    let mut m = [0u64; 16];
-    let mut i: usize = 0;
-    while i < 16 {
+    let mut m = [0; 16];
+    // By index, here and below: after an adapter of `iter_mut` a proof knows nothing of the values.
+    for i in 0..16 {
         m[i] = words::load(s, 8 * i, 8).lo;
-        i += 1;
     }
     m
 }
 
-fn vector_of(h: [u64; 8], t: u64, last: bool) -> [u64; 16]
-    ensures { result ≡ vector h t last }
+fn vector_of(h: &[u64; 8], t: u64, last: bool) -> [u64; 16]
+    ensures { result ≡ vector h.now t last }
 {
-    let iv = tables::IV;
+    let iv = IV;
+    let inverted = if last { iv[6] ^ u64::MAX } else { iv[6] };
+    // Written out: two copy_from_slice in place of it cost long texts 4 % more time.
     [
         h[0],
         h[1],
@@ -143,125 +141,81 @@ fn vector_of(h: [u64; 8], t: u64, last: bool) -> [u64; 16]
         iv[3],
         iv[4] ^ t,
         iv[5],
-        inverted(last, iv[6]),
+        inverted,
         iv[7],
     ]
 }
 
-fn inverted(last: bool, x: u64) -> u64
-    ensures { result ≡ (if last then bit_xor x 0xFFFFFFFFFFFFFFFF else x) }
+fn fold_in(h: &mut [u64; 8], v: &[u64; 16])
+    ensures { h.new ≡ folded h.old v.now }
 {
-    if last { x ^ 0xFFFFFFFFFFFFFFFF } else { x }
-}
-
-fn folded_of(h: [u64; 8], v: [u64; 16]) -> [u64; 8]
-    ensures { result ≡ folded h v }
-{
-    let mut r = h;
-    let mut i: usize = 0;
-    while i < 8 {
-        r[i] = h[i] ^ v[i] ^ v[i + 8];
-        i += 1;
+    for i in 0..8 {
+        h[i] = h[i] ^ v[i] ^ v[i + 8];
     }
-    r
 }
 
-fn rounds_of(m: &[u64; 16], v: [u64; 16]) -> [u64; 16]
-    ensures { result ≡ rounds m.now v }
+// Twelve rounds on the words m of a block.
+fn rounds_of(m: &[u64; 16], v: &mut [u64; 16])
+    ensures { v.new ≡ rounds m.now v.old }
 {
-    let s = tables::SIGMA;
-    let mut u = v;
-    let mut i: usize = 0;
-    while i < 12 {
-        let w = round_of(m, &s, i, u);
-        u = w;
-        i += 1;
+    for r in 0..12 {
+        round_of(m, r, v);
     }
-    u
 }
 
-// The columns, then the diagonals.
-fn round_of(m: &[u64; 16], s: &[u8; 160], r: usize, v: [u64; 16]) -> [u64; 16]
-    requires { (s.now ≡ sigma_table) × (r < 12) }
-    ensures { result ≡ round m.now r v }
+// Round r: the columns, then the diagonals.
+fn round_of(m: &[u64; 16], r: usize, v: &mut [u64; 16])
+    ensures { v.new ≡ round m.now r v.old }
 {
-    let p0 = mix_at(m, s, r, 0, v[0], v[4], v[8], v[12]);
-    let p1 = mix_at(m, s, r, 1, v[1], v[5], v[9], v[13]);
-    let p2 = mix_at(m, s, r, 2, v[2], v[6], v[10], v[14]);
-    let p3 = mix_at(m, s, r, 3, v[3], v[7], v[11], v[15]);
-    let q0 = mix_at(m, s, r, 4, p0.a, p1.b, p2.c, p3.d);
-    let q1 = mix_at(m, s, r, 5, p1.a, p2.b, p3.c, p0.d);
-    let q2 = mix_at(m, s, r, 6, p2.a, p3.b, p0.c, p1.d);
-    let q3 = mix_at(m, s, r, 7, p3.a, p0.b, p1.c, p2.d);
-    [
-        q0.a, q1.a, q2.a, q3.a, q3.b, q0.b, q1.b, q2.b, q2.c, q3.c, q0.c, q1.c, q1.d, q2.d, q3.d,
-        q0.d,
-    ]
+    words::square(v, &Round { m, r });
 }
 
-// Four words of a vector.
-#[derive(Drop)]
-struct Quad {
-    a: u64,
-    b: u64,
-    c: u64,
-    d: u64,
+// Round r on the words m of a block, as a step: its mixings.
+#[derive(Clone, Copy)]
+struct Round<'a> {
+    m: &'a [u64; 16],
+    r: usize,
 }
 
-// The n-th mixing of round r.
-fn mix_at(m: &[u64; 16], s: &[u8; 160], r: usize, n: usize, a: u64, b: u64, c: u64, d: u64) -> Quad
-    requires { (s.now ≡ sigma_table) × (r < 12) × (n < 8) }
-    ensures { result ≡ mixing m.now r n a b c d }
-{
-    mix(
-        a,
-        b,
-        c,
-        d,
-        word_of(m, s, r, 2 * n),
-        word_of(m, s, r, 2 * n + 1),
-    )
+impl<'a> Round<'a> {
+    // The word that it takes i-th.
+    fn word(&self, i: usize) -> u64
+        requires { i < 16 }
+        ensures { result ≡ word_at self.now.m.now self.now.r i }
+    {
+        let k = self.place(i);
+        self.m[k]
+    }
+
+    fn place(&self, i: usize) -> usize
+        requires { i < 16 }
+        ensures { (result ≡ sigma self.now.r i) × (result < 16) }
+    {
+        (SIGMA[self.r % 10] >> (4 * i)) as usize % 16
+    }
 }
 
-fn word_of(m: &[u64; 16], s: &[u8; 160], r: usize, i: usize) -> u64
-    requires { (s.now ≡ sigma_table) × (r < 12) × (i < 16) }
-    ensures { result ≡ word_at m.now r i }
-{
-    let k = place_of(s, r, i);
-    m[k]
+impl<'a> Step<u64> for Round<'a> {
+    ghost gives = { λ s n. mixing s.m.now s.r (n % 8) };
+
+    // There are eight steps: the remainder changes no n that is handed here, and any may be.
+    fn take(&self, n: usize, a: u64, b: u64, c: u64, d: u64) -> (u64, u64, u64, u64) {
+        let i = 2 * (n % 8);
+        mix(a, b, c, d, self.word(i), self.word(i + 1))
+    }
 }
 
-fn place_of(s: &[u8; 160], r: usize, i: usize) -> usize
-    requires { (s.now ≡ sigma_table) × (r < 12) × (i < 16) }
-    ensures { (result ≡ sigma r i) × (result < 16) }
-{
-    s[r % 10 * 16 + i] as usize
-}
-
-// The mixing function G.
-fn mix(a: u64, b: u64, c: u64, d: u64, x: u64, y: u64) -> Quad
+// The mixing function G. Four words, by the RFC's names: an array of them would say less.
+fn mix(a: u64, b: u64, c: u64, d: u64, x: u64, y: u64) -> (u64, u64, u64, u64)
     ensures { result ≡ mixed a b c d x y }
 {
-    let a1 = wrapping_add_u64(wrapping_add_u64(a, b), x);
-    let d1 = rotr64(d ^ a1, 32);
-    let c1 = wrapping_add_u64(c, d1);
-    let b1 = rotr64(b ^ c1, 24);
-    let a2 = wrapping_add_u64(wrapping_add_u64(a1, b1), y);
-    let d2 = rotr64(d1 ^ a2, 16);
-    let c2 = wrapping_add_u64(c1, d2);
-    let b2 = rotr64(b1 ^ c2, 63);
-    Quad {
-        a: a2,
-        b: b2,
-        c: c2,
-        d: d2,
-    }
-}
-
-// x rotated right by n.
-fn rotr64(x: u64, n: u64) -> u64
-    requires { (0 < n) × (n < 64) }
-    ensures { result ≡ rotr 64 n x }
-{
-    (x >> n) | (x << (64 - n))
+    let a1 = a.wrapping_add(b).wrapping_add(x);
+    let d1 = (d ^ a1).rotate_right(32);
+    let c1 = c.wrapping_add(d1);
+    let b1 = (b ^ c1).rotate_right(24);
+    let a2 = a1.wrapping_add(b1).wrapping_add(y);
+    let d2 = (d1 ^ a2).rotate_right(16);
+    let c2 = c1.wrapping_add(d2);
+    let b2 = (b1 ^ c2).rotate_right(63);
+    (a2, b2, c2, d2)
 }

@@ -1,57 +1,61 @@
 -- What is found, from what the calls ensure.
-use mathlib.Core.Path.{◌≡◌, refl, sym, ap, ap₂, ◌∙◌}
+use mathlib.Core.Path.{◌≡◌, refl, sym, ap, ◌∙◌}
 use mathlib.Core.Bool.{Bool, true, false, cond, not, ◌||◌}
 use mathlib.Core.List.{List}
 use Prim.Native.Nat.{ℕ}
-use native.Mathlib.Omega.{arith}
-use lib.Dec.{ltb}
+use Rattle.std.specs.Prelude.{Option, Some, None, Ok, Err}
+use Rattle.std.specs.Option.{ok_or}
+use Rattle.answers.specs.declared.Refusal.{Refusal}
+use Rattle.answers.specs.declared.Refusal.TheVariants.{ClassMissing}
+use Rattle.answers.specs.Told.{number_of_refusal}
 use Rattle.answers.specs.Answers.{number_of, Answer, answered, answer}
-use Rattle.answers.proofs.Answers.{refuse-clear, judged-refused, judged-clear}
-use Rattle.books.specs.declared.Found.{Found}
-use Rattle.books.specs.Books.{count, key_place, entry, holds}
-use Rattle.books.specs.Entry.{badly_formed, no_entry, Place, nowhere, placed, finding}
+use Rattle.answers.proofs.Answers.{refuse-clear, handed-on, goes-on}
+use Rattle.books.specs.Books.{key_place, entry, holds}
+use Rattle.books.specs.Entry.{badly_formed, no_entry, Place, nowhere, placed, finding, Finding}
 
--- a struct as an answer
-abbrev pub answer_of : Found → Answer Place
-answer_of f = answered f.number (record { book = f.book; offset = f.offset })
+-- a book is badly formed
+pub bad : (thisTerm lastTerm : List ℕ) (c : ℕ) (why : Refusal)
+    → number_of_refusal why ≡ number_of (badly_formed thisTerm lastTerm)
+    → Finding (number_of_refusal why) thisTerm lastTerm c 0 0
+unfolding finding
+bad thisTerm lastTerm c why e =
+    handed-on {B = Unit {0}} (Err why) (badly_formed thisTerm lastTerm) e refl nowhere
+    (answer (no_entry thisTerm lastTerm c) (placed thisTerm lastTerm c) nowhere)
 
--- whether there is an entry, by its place and the count
-pub holds-is : (c : ℕ) (book : List ℕ) {i n : ℕ} → i ≡ entry c book → n ≡ count book → holds c book ≡ ltb i n
-holds-is c book ei en = ap₂ ltb (sym ei) (sym en)
+-- a search is the answer where it found a key, and the next one is where it did not
+module _ (c : ℕ) (book : List ℕ) where
+  abbrev key_in : Option ℕ
+  key_in = cond (holds c book) (Some (key_place (entry c book))) None
 
--- the first of two searches gives the answer, or the second does
-first_done : (t : Bool) (a : Place) (g : Answer Place) {f : Answer Place}
-    → f ≡ cond t (answered 0 a) (answered 11 nowhere) → f.number ≡ 0 → f ≡ cond t (answered 0 a) g
-first_done true a g e z = e
-first_done false a g e z = absurd (omega (arith, ap (λ (x : Answer Place). x.number) e, z))
+  abbrev searched_in : ℕ → Answer Place → Answer Place
+  searched_in b next = cond (holds c book) (answered 0 (record { book = b; offset = key_place (entry c book) })) next
 
-first-missed : (t : Bool) (a : Place) (g : Answer Place) {f : Answer Place}
-    → f ≡ cond t (answered 0 a) (answered 11 nowhere) → (f.number ≡ 0 → ⊥) → g ≡ cond t (answered 0 a) g
-first-missed true a g e n = absurd (n (ap (λ (x : Answer Place). x.number) e))
-first-missed false a g e n = refl
+  found_there : (b offset : ℕ) (next : Answer Place) → Some offset ≡ key_in
+      → answered 0 (record { book = b; offset = offset }) ≡ searched_in b next
+  found_there b offset next e = by (holds c book) (key_place (entry c book)) e
+    where
+      by : (t : Bool) (p : ℕ) → Some offset ≡ cond t (Some p) None
+          → answered 0 (record { book = b; offset = offset })
+          ≡ cond t (answered 0 (record { book = b; offset = p })) next
+      by true p e = let q : offset ≡ p = cc in rw q
+      by false p e = cc
 
-module _ (c : ℕ) where
-  -- the key of one book, and where it is not there, of the other
-  abbrev key_at : ℕ → List ℕ → Place
-  key_at b book = record { book = b; offset = key_place (entry c book) }
+  found_elsewhere : (b : ℕ) (next : Answer Place) → None ≡ key_in → next ≡ searched_in b next
+  found_elsewhere b next e = by (holds c book) (key_place (entry c book)) e
+    where
+      by : (t : Bool) (p : ℕ) → None ≡ cond t (Some p) None
+          → next ≡ cond t (answered 0 (record { book = b; offset = p })) next
+      by true p e = cc
+      by false p e = refl
 
-  abbrev key_in : ℕ → List ℕ → Answer Place → Answer Place
-  key_in b book other = cond (holds c book) (answered 0 (key_at b book)) other
-
--- both books are judged by the definition's rows; where neither is badly formed, both are searched
-module _ (thisTerm lastTerm : List ℕ) (c : ℕ) {r : ℕ} (er : r ≡ number_of (badly_formed thisTerm lastTerm)) where
-  pub bad : (r ≡ 0 → ⊥) → answered r nowhere ≡ finding thisTerm lastTerm c
+-- neither book is badly formed, so both are searched
+module _ (thisTerm lastTerm : List ℕ) (c : ℕ) (formed : 0 ≡ number_of (badly_formed thisTerm lastTerm)) where
+  searched : searched_in c thisTerm 0 (searched_in c lastTerm 1 (answered 11 nowhere)) ≡ finding thisTerm lastTerm c
   unfolding finding
-  bad =
-      judged-refused (badly_formed thisTerm lastTerm) er nowhere
-      (answer (no_entry thisTerm lastTerm c) (placed thisTerm lastTerm c) nowhere)
-
-  searched : r ≡ 0 → key_in c 0 thisTerm (key_in c 1 lastTerm (answered 11 nowhere)) ≡ finding thisTerm lastTerm c
-  unfolding finding
-  searched z =
+  searched =
       by (holds c thisTerm) (holds c lastTerm) _ _
       ∙ sym (refuse-clear nowhere (answer (no_entry thisTerm lastTerm c) (placed thisTerm lastTerm c) nowhere)
-      (badly_formed thisTerm lastTerm) (judged-clear (badly_formed thisTerm lastTerm) er tt z))
+      (badly_formed thisTerm lastTerm) (goes-on (badly_formed thisTerm lastTerm) formed tt))
     where
       by : (t u : Bool) (a b : Place) → cond t (answered 0 a) (cond u (answered 0 b) (answered 11 nowhere))
           ≡ cond (not (t || u)) (answered 11 nowhere) (answered 0 (cond t a b))
@@ -59,12 +63,28 @@ module _ (thisTerm lastTerm : List ℕ) (c : ℕ) {r : ℕ} (er : r ≡ number_o
       by false true a b = refl
       by false false a b = refl
 
-  module _ (z : r ≡ 0) {f : Answer Place} (e : f ≡ key_in c 0 thisTerm (answered 11 nowhere)) where
-    pub in-this : f.number ≡ 0 → f ≡ finding thisTerm lastTerm c
-    in-this n =
-        first_done (holds c thisTerm) (key_at c 0 thisTerm) (key_in c 1 lastTerm (answered 11 nowhere)) e n ∙ searched z
+  pub in-this : (offset : ℕ) → Some offset ≡ key_in c thisTerm → Finding 0 thisTerm lastTerm c 0 offset
+  in-this offset e = found_there c thisTerm 0 offset _ e ∙ searched
 
-    pub in-last : (f.number ≡ 0 → ⊥) → {g : Answer Place} → g ≡ key_in c 1 lastTerm (answered 11 nowhere)
-        → g ≡ finding thisTerm lastTerm c
-    in-last n {g} q =
-        first-missed (holds c thisTerm) (key_at c 0 thisTerm) g e n ∙ ap (key_in c 0 thisTerm) q ∙ searched z
+  -- the last search's answer is handed on by `ok_or`
+  module _ (missed : None ≡ key_in c thisTerm) (r : Option ℕ) (er : r ≡ key_in c lastTerm) where
+    pub in-last : (offset : ℕ) → Ok offset ≡ ok_or r ClassMissing → Finding 0 thisTerm lastTerm c 1 offset
+    in-last offset e =
+        found_there c lastTerm 1 offset (answered 11 nowhere) (some r e ∙ er)
+        ∙ found_elsewhere c thisTerm 0 _ missed ∙ searched
+      where
+        some : (o : Option ℕ) → Ok offset ≡ ok_or o ClassMissing → Some offset ≡ o
+        some (Some x) q = let w : offset ≡ x = cc in rw w
+        some None q = cc
+
+    pub in-neither : (why : Refusal) → Err why ≡ ok_or r ClassMissing
+        → Finding (number_of_refusal why) thisTerm lastTerm c 0 0
+    in-neither why e =
+        let w = none r e in
+        ap (λ (n : ℕ). answered n nowhere) w.1
+        ∙ found_elsewhere c lastTerm 1 (answered 11 nowhere) (sym w.0 ∙ er)
+        ∙ found_elsewhere c thisTerm 0 _ missed ∙ searched
+      where
+        none : (o : Option ℕ) → Err why ≡ ok_or o ClassMissing → (o ≡ None) × (number_of_refusal why ≡ 11)
+        none (Some x) q = cc
+        none None q = (refl, let w : why ≡ ClassMissing = cc in ap number_of_refusal w)

@@ -4,7 +4,7 @@ use mathlib.Core.Logic.{◌↔◌}
 use mathlib.Core.Bool.{Bool, true, false, cond, ◌||◌, and-eq-true_iff}
 use mathlib.Core.List.{List, [], ◌++◌}
 use Prim.Native.Nat.{ℕ, ◌+◌, ◌-◌, ◌*◌, ◌≤◌}
-use native.Mathlib.Nat.{add_comm, add-sub_cancel_left}
+use native.Mathlib.Nat.{add-zero, add_comm, add-sub_cancel_left}
 use native.Mathlib.Decide.{ℕ_discrete}
 use native.Mathlib.Omega.{arith}
 use borrow.Author.Tests.{eqb-true, eq-eqb, ne_eqb, ltb-true, not-false}
@@ -14,10 +14,11 @@ use Rattle.words.specs.Lent.{Lent, within}
 use Rattle.answers.specs.Answers.{Row, Answer, answered}
 use Rattle.words.proofs.Lists.{length_part}
 use Rattle.answers.proofs.Answers.{Clear, answer-has}
-use Rattle.books.specs.declared.Found.{Found}
+use Rattle.answers.proofs.Answers.{refused-number}
+use Rattle.answers.specs.declared.Refusal.{Refusal}
+use Rattle.answers.specs.Told.{number_of_refusal}
 use Rattle.books.specs.Books.{count, key_place, rising, classes, well_formed, entry, holds}
-use Rattle.books.proofs.Finding.{answer_of}
-use Rattle.books.specs.Entry.{badly_formed, no_entry, Place, nowhere, placed, finding, handed_back}
+use Rattle.books.specs.Entry.{badly_formed, no_entry, Place, nowhere, placed, finding, Finding, handed_back}
 
 -- a key that a well-formed book holds lies within it
 key_fits : (c : ℕ) (book : List ℕ) → well_formed book ≡ true → holds c book ≡ true
@@ -68,21 +69,30 @@ module _ (thisTerm lastTerm : Lent) (c : ℕ) where
       answer-has (placed thisTerm.bytes lastTerm.bytes c) nowhere refusals (Fits thisTerm lastTerm) tt placed-fits
       (λ n z. rw (ne_eqb n 0 z) (omega arith))
 
-  -- of what the search answered, in the book and of the length that it gives
-  module _ {f : Found} (e : answer_of f ≡ found) {s : Lent} (es : s ≡ cond (eqb f.book 0) thisTerm lastTerm) {n : ℕ}
-      (en : n ≡ cond (eqb f.number 0) 16 0) where
-    pub part-fits : f.offset + n ≤ length s.bytes
-    part-fits = rw (es, en) (subst⁻¹ (Fits thisTerm lastTerm) e answer-fits)
+  -- where a key is found, in the book s that it lies in
+  module _ {b o : ℕ} (e : Finding 0 thisTerm.bytes lastTerm.bytes c b o) {s : Lent}
+      (es : s ≡ cond (eqb b 0) thisTerm lastTerm) where
+    pub part-fits : o + 16 ≤ length s.bytes
+    part-fits = rw es (subst⁻¹ (Fits thisTerm lastTerm) e answer-fits)
 
-    pub part-is : record {
-      start = (s.start.0, f.offset + s.start.1);
-      bytes = take (f.offset + n - f.offset) (drop f.offset s.bytes);
-    } ≡ handed_back thisTerm lastTerm c
+    pub part-is : record { start = (s.start.0, o + s.start.1); bytes = take (o + 16 - o) (drop o s.bytes) }
+        ≡ handed_back thisTerm lastTerm c
     unfolding handed_back
     part-is =
-        rw (add_comm f.offset s.start.1, add-sub_cancel_left f.offset n, es, en)
+        rw (add_comm o s.start.1, add-sub_cancel_left o 16, es)
         (ap (λ (a : Answer Place). within (book_of thisTerm lastTerm a.outcome) a.outcome.offset
         (length_of thisTerm lastTerm a.number)) e)
+
+  -- where it is refused, an empty part at the start of this term's
+  pub part-none : (why : Refusal) → Finding (number_of_refusal why) thisTerm.bytes lastTerm.bytes c 0 0
+      → record { start = thisTerm.start; bytes = take 0 thisTerm.bytes } ≡ handed_back thisTerm lastTerm c
+  unfolding handed_back
+  part-none why e =
+      let none : length_of thisTerm lastTerm (number_of_refusal why) ≡ 0 =
+      rw (ne_eqb (number_of_refusal why) 0 (refused-number why)) in
+      rw (none, add-zero) at
+      (ap (λ (a : Answer Place). within (book_of thisTerm lastTerm a.outcome) a.outcome.offset
+      (length_of thisTerm lastTerm a.number)) e)
 
   -- ---- "the part is 16 bytes long exactly when the number is 0."
 

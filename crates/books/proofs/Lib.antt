@@ -1,4 +1,4 @@
-pub mod Loops
+pub mod Searching
 pub mod Finding
 pub mod Handed
 pub mod Entries

@@ -14,6 +14,7 @@ pub find-unique : (thisTerm lastTerm : List ℕ) (c : ℕ) {m n b d p q : ℕ} �
     → (m ≡ n) × (◌≡◌ {A = Place} (record { book = b; offset = p }) (record { book = d; offset = q }))
 find-unique thisTerm lastTerm c = same_answer
 
+-- the number alone
 pub number-unique : (thisTerm lastTerm : List ℕ) (c : ℕ) {m n : ℕ} → m ≡ (finding thisTerm lastTerm c).number
     → n ≡ (finding thisTerm lastTerm c).number → m ≡ n
 number-unique thisTerm lastTerm c = same

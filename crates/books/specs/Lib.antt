@@ -1,2 +1,3 @@
 pub mod Books
 pub mod Entry
+pub mod Found

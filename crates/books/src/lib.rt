@@ -1,29 +1,41 @@
 // Key books: the key of a class, in this term's book or else in last term's.
 #![tactic(auto)]
 
-ghost use Rattle.std.specs.Prelude.{◌≡◌, cond, ◌+◌, ◌*◌, ◌≤◌, eqb};
+ghost use Rattle.std.specs.Prelude.{◌≡◌, cond, eqb, Some, None};
 ghost use Rattle.words.specs.Lent.{lent};
-ghost use Rattle.answers.specs.Answers.{answered};
+ghost use Rattle.answers.specs.Told.{told};
+ghost use Rattle.answers.specs.Answers.{number_of};
 ghost use Rattle.books.specs.Books.{count, class, key_place, well_formed, entry, holds};
-ghost use Rattle.books.specs.Entry.{nowhere, finding, Finding, HandedBack};
+ghost use Rattle.books.specs.Entry.{badly_formed, Finding, HandedBack};
+ghost use Rattle.books.specs.Found.{number_of_book, book_of, offset_of};
 
-use answers::row;
+use answers::{Refusal, refuse};
 
-// Where a key lies: 0 or the refusal, the book (0 this term's, 1 last term's) and the offset in it.
-#[repr(C)]
-#[derive(Drop)]
-pub struct Found {
-    pub number: u32,
-    pub book: u32,
-    pub offset: usize,
+// The term whose book it is.
+#[derive(Clone, Copy)]
+pub enum Term {
+    This,
+    Last,
 }
 
-// The number that `find` answers: the refusal, or 0 if there is a key for the class.
-pub fn number(this_term: &[u8], last_term: &[u8], class: u16) -> u32
-    ensures { result ≡ (finding this_term.now last_term.now class).number }
-{
-    let f = find(this_term, last_term, class);
-    f.number
+impl Term {
+    // Its book, of the two.
+    fn pick<'a>(self, this_term: &'a [u8], last_term: &'a [u8]) -> &'a [u8]
+        ensures { lent result ≡ cond (eqb (number_of_book self) 0) (lent this_term.entry)
+            (lent last_term.entry) }
+    {
+        match self {
+            Term::This => this_term,
+            Term::Last => last_term,
+        }
+    }
+}
+
+// Where a key lies: the book, and the offset in it.
+#[derive(Clone, Copy)]
+pub struct Found {
+    pub book: Term,
+    pub offset: usize,
 }
 
 // The key's 16 bytes where they lie in the book that `find` names, themselves and no copy; if it is refused, an
@@ -31,114 +43,68 @@ pub fn number(this_term: &[u8], last_term: &[u8], class: u16) -> u32
 pub fn part<'a>(this_term: &'a [u8], last_term: &'a [u8], class: u16) -> &'a [u8]
     ensures { HandedBack result this_term.entry last_term.entry class }
 {
-    let f = find(this_term, last_term, class);
-    let book = book_of(f.book, this_term, last_term);
-    let offset = f.offset;
-    let end = offset + length_of(f.number);
-    &book[offset..end]
-}
-
-fn book_of<'a>(which: u32, this_term: &'a [u8], last_term: &'a [u8]) -> &'a [u8]
-    ensures { lent result ≡ cond (eqb which 0) (lent this_term.entry) (lent last_term.entry) }
-{
-    if which == 0 { this_term } else { last_term }
-}
-
-fn length_of(number: u32) -> usize
-    ensures { result ≡ cond (eqb number 0) 16 0 }
-{
-    if number == 0 { 16 } else { 0 }
-}
-
-// Where the key of the class lies: the book and the offset in it; if it is refused, book 0 and offset 0. Both books
-// are judged before either is searched.
-pub fn find(this_term: &[u8], last_term: &[u8], class: u16) -> Found
-    ensures { Finding result.number this_term.now last_term.now class result.book
-        result.offset }
-{
-    let refused = row(
-        !well_formed(this_term),
-        10,
-        row(!well_formed(last_term), 10, 0),
-    );
-    if refused != 0 {
-        return nowhere(refused);
+    // Both books are lent one by one, as C lends them.
+    match find(this_term, last_term, class) {
+        Ok(found) => {
+            let book = found.book.pick(this_term, last_term);
+            &book[found.offset..found.offset + 16]
+        }
+        Err(_) => &this_term[..0],
     }
-    let f = key_in(0, this_term, class);
-    if f.number == 0 {
-        return f;
-    }
-    key_in(1, last_term, class)
 }
 
-// The key of the class in one book.
-fn key_in(which: u32, book: &[u8], class: u16) -> Found
-    ensures { answered result.number (record { book = result.book; offset = result.offset })
-        ≡ cond (holds class book.entry.now) (answered 0
-        (record { book = which; offset = key_place (entry class book.entry.now) })) (answered 11 nowhere) }
+// Where the key of the class lies. Both books are judged before either is searched.
+pub fn find(this_term: &[u8], last_term: &[u8], class: u16) -> Result<Found, Refusal>
+    ensures { Finding (told result) this_term.now last_term.now class (book_of result)
+        (offset_of result) }
 {
-    let i = entry_of(book, class);
-    if i < count_of(book) {
-        return Found {
-            number: 0,
-            book: which,
-            offset: 2 + 18 * i + 2,
-        };
+    judge(this_term, last_term)?;
+    if let Some(offset) = key_in(this_term, class) {
+        return Ok(Found {
+            book: Term::This,
+            offset,
+        });
     }
-    nowhere(11)
+    let offset = key_in(last_term, class).ok_or(Refusal::ClassMissing)?;
+    Ok(Found {
+        book: Term::Last,
+        offset,
+    })
 }
 
-fn nowhere(number: u32) -> Found
-    ensures { result ≡ record { number = number; book = 0; offset = 0 } }
+fn judge(this_term: &[u8], last_term: &[u8]) -> Result<(), Refusal>
+    ensures { told result ≡ number_of (badly_formed this_term.now last_term.now) }
 {
-    Found {
-        number: number,
-        book: 0,
-        offset: 0,
-    }
+    refuse(!well_formed(this_term), Refusal::BookForm)?;
+    refuse(!well_formed(last_term), Refusal::BookForm)
+}
+
+// Where the key of the class starts in one book.
+fn key_in(book: &[u8], class: u16) -> Option<usize>
+    ensures { result ≡ cond (holds class book.now) (Some (key_place (entry class book.now))) None }
+{
+    (0..count_of(book))
+        .find(|i| class_at(book, *i) == class)
+        .map(|i| 2 + 18 * usize::from(i) + 2)
 }
 
 fn well_formed(book: &[u8]) -> bool
     ensures { result ≡ well_formed book.now }
 {
     let n = count_of(book);
-    if book.len() != 2 + 18 * n {
-        return false;
-    }
-    let mut i: usize = 0;
-    while i + 1 < n {
-        if class_at(book, i) >= class_at(book, i + 1) {
-            return false;
-        }
-        i += 1;
-    }
-    true
+    book.len() == 2 + 18 * usize::from(n)
+        && (1..n).all(|i| class_at(book, i - 1) < class_at(book, i))
 }
 
-// The first entry for the class, or the count where there is none.
-fn entry_of(book: &[u8], class: u16) -> usize
-    ensures { (result ≡ entry class book.now) × (result ≤ 65535) }
+fn count_of(book: &[u8]) -> u16
+    ensures { result ≡ count book.now }
 {
-    let n = count_of(book);
-    let mut i: usize = 0;
-    while i < n {
-        if class_at(book, i) == class {
-            return i;
-        }
-        i += 1;
-    }
-    i
+    words::two(book, 0)
 }
 
-fn count_of(book: &[u8]) -> usize
-    ensures { (result ≡ count book.now) × (result ≤ 65535) }
-{
-    words::two(book, 0) as usize
-}
-
-fn class_at(book: &[u8], i: usize) -> u16
-    requires { i ≤ 65535 }
+// The class number of entry i.
+fn class_at(book: &[u8], i: u16) -> u16
     ensures { result ≡ class book.now i }
 {
-    words::two(book, 2 + 18 * i)
+    words::two(book, 2 + 18 * usize::from(i))
 }

@@ -1,11 +1,9 @@
 // The commands, and the table that names them.
-ghost use Rattle.std.specs.Prelude.{◌<◌};
-
 use crate::text::Text;
-use crate::{tables, text};
-use words::first;
+use std::fmt::Write;
 
-#[derive(Clone, Copy)]
+// In the order of their rows, and of their columns in the table of options; version has none.
+#[derive(Clone, Copy, PartialEq, Eq)]
 pub(crate) enum Command {
     Seal,
     Open,
@@ -23,181 +21,106 @@ pub(crate) enum Command {
     Version,
 }
 
-// A name is filled with blanks.
 #[derive(Clone, Copy)]
 struct CommandRow {
     command: Command,
-    name: [u8; 9],
+    name: &'static str,
+    does: &'static str,
 }
 
-// In the order of their columns in the table of options.
 const COMMANDS: [CommandRow; 13] = [
     CommandRow {
         command: Command::Seal,
-        name: *b"seal     ",
+        name: "seal",
+        does: "seals a text, and writes a card",
     },
     CommandRow {
         command: Command::Open,
-        name: *b"open     ",
+        name: "open",
+        does: "opens a card, if its tag is right",
     },
     CommandRow {
         command: Command::Check,
-        name: *b"check    ",
+        name: "check",
+        does: "says whether a card opens, and writes nothing",
     },
     CommandRow {
         command: Command::Encipher,
-        name: *b"encipher ",
+        name: "encipher",
+        does: "enciphers a wide block, such as a recording",
     },
     CommandRow {
         command: Command::Decipher,
-        name: *b"decipher ",
+        name: "decipher",
+        does: "deciphers it",
     },
     CommandRow {
         command: Command::Digest,
-        name: *b"digest   ",
+        name: "digest",
+        does: "takes a BLAKE2b digest",
     },
     CommandRow {
         command: Command::Start,
-        name: *b"start    ",
+        name: "start",
+        does: "makes a drawer of nonces",
     },
     CommandRow {
         command: Command::Draw,
-        name: *b"draw     ",
+        name: "draw",
+        does: "takes a nonce from it",
     },
     CommandRow {
         command: Command::Show,
-        name: *b"show     ",
+        name: "show",
+        does: "shows what a drawer holds, or the parts of a card",
     },
     CommandRow {
         command: Command::Book,
-        name: *b"book     ",
+        name: "book",
+        does: "makes a key book",
     },
     CommandRow {
         command: Command::Classes,
-        name: *b"classes  ",
+        name: "classes",
+        does: "lists the classes of a key book",
     },
     CommandRow {
         command: Command::Pack,
-        name: *b"pack     ",
+        name: "pack",
+        does: "shows the cards of a lesson pack",
     },
     CommandRow {
         command: Command::Help,
-        name: *b"help     ",
+        name: "help",
+        does: "tells more: cards help COMMAND, with examples",
     },
 ];
 
-// What each does, by its place in the table.
-const SENTENCES: [u8; 446] = *b"0 seals a text, and writes a card
-1 opens a card, if its tag is right
-2 says whether a card opens, and writes nothing
-3 enciphers a wide block, such as a recording
-4 deciphers it
-5 takes a BLAKE2b digest
-6 makes a drawer of nonces
-7 takes a nonce from it
-8 shows what a drawer holds, or the parts of a card
-9 makes a key book
-10 lists the classes of a key book
-11 shows the cards of a lesson pack
-12 tells more: cards help COMMAND, with examples
-";
-
-// A command that a word names, if there is one.
-#[derive(Clone, Copy)]
-pub(crate) struct Named {
-    pub good: bool,
-    pub command: Command,
-}
-
 // The command that a word names: one of the table, or one of the usual words for help and version.
-pub(crate) fn of_word(w: Text) -> Named {
-    if text::is(w, b"--help") || text::is(w, b"-h") {
-        return known(Command::Help);
-    }
-    if text::is(w, b"--version") {
-        return known(Command::Version);
-    }
-    in_table(first(&w.bytes, w.len))
-}
-
-fn known(command: Command) -> Named {
-    Named {
-        good: true,
-        command: command,
+pub(crate) fn of_word(word: &[u8]) -> Option<Command> {
+    match word {
+        b"--help" | b"-h" => Some(Command::Help),
+        b"--version" => Some(Command::Version),
+        _ => COMMANDS
+            .iter()
+            .find(|row| row.name.as_bytes() == word)
+            .map(|row| row.command),
     }
 }
 
-fn in_table(word: &[u8]) -> Named {
-    let mut i = 0;
-    while i < 13 {
-        let row = row_at(i);
-        let name = row.name;
-        if text::is_name(&name, word) {
-            let command = row.command;
-            return known(command);
-        }
-        i += 1;
-    }
-    Named {
-        good: false,
-        command: Command::Help,
-    }
-}
-
-// The command's row in the table, and its column in the table of options.
-pub(crate) fn place(command: Command) -> usize
-    ensures { result < 13 }
-{
+// The name of a command that has options.
+pub(crate) fn name(command: Command) -> Option<&'static str> {
     match command {
-        Command::Seal => 0,
-        Command::Open => 1,
-        Command::Check => 2,
-        Command::Encipher => 3,
-        Command::Decipher => 4,
-        Command::Digest => 5,
-        Command::Start => 6,
-        Command::Draw => 7,
-        Command::Show => 8,
-        Command::Book => 9,
-        Command::Classes => 10,
-        Command::Pack => 11,
-        Command::Help => 12,
-        Command::Version => 12,
+        Command::Help | Command::Version => None,
+        _ => COMMANDS.get(command as usize).map(|row| row.name),
     }
-}
-
-pub(crate) fn name(command: Command) -> Text {
-    let row = row_at(place(command));
-    let name = row.name;
-    text::of_name(&name)
-}
-
-// The one function that has the table in view, since each that has it costs its check.
-fn row_at(i: usize) -> CommandRow
-    requires { i < 13 }
-{
-    COMMANDS[i]
 }
 
 // A line for each command, as `cards help` prints it.
 pub(crate) fn lines() -> Text {
-    let mut t = text::of(b"");
-    let mut i = 0;
-    while i < 13 {
-        t = text::and_text(t, line(i));
-        i += 1;
+    let mut t = Text::new();
+    for row in COMMANDS {
+        let _ = write!(t, "  cards {:<10}{}\n", row.name, row.does);
     }
     t
-}
-
-fn line(i: usize) -> Text
-    requires { i < 13 }
-{
-    let row = row_at(i);
-    let name = row.name;
-    let t = text::and_text(text::of(b"  cards "), text::of_name(&name));
-    text::and(
-        text::and(text::to(t, 18), tables::entry(&SENTENCES, i as u64)),
-        b"\n",
-    )
 }

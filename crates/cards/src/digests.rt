@@ -1,52 +1,38 @@
 // digest.
+ghost use Rattle.std.specs.Prelude.{◌≤◌};
+
 use crate::options::{Opt, Options};
-use crate::refusal::Refusal;
+use crate::refusal::{Refusal, What, Why};
 use crate::system::System;
-use crate::{first_mut, inputs, options, outputs, refusal, rooms};
-use std::rt::Env;
-use words::first;
+use crate::{inputs, limits, outputs, refusal};
 
-pub(crate) fn digest(rt: &impl System, o: Options) -> Refusal {
-    let mut key = [0u8; 65];
-    let mut text = rooms::text();
-    let k = inputs::read_given(rt, refusal::none(), o, Opt::Key, 0, &mut key);
-    let t = inputs::read(rt, k.refusal, o, Opt::In, &mut text);
-    digest_of(rt, t.refusal, o, first(&key, k.len), first(&text, t.len))
-}
-
-fn digest_of(rt: &impl System, before: Refusal, o: Options, key: &[u8], text: &[u8]) -> Refusal {
-    if before.number != 0 {
-        return before;
-    }
-    if options::given(o, Opt::Key) && key.len() == 0 {
-        return refused(1); // whoever names a key wants one: without --key there is none
-    }
+pub(crate) fn digest(rt: &impl System, o: Options) -> Result<(), Refusal> {
+    let key = inputs::read_given(rt, o, Opt::Key, limits::DIGEST_KEY)?;
+    let text = inputs::read(rt, o, Opt::In, limits::TEXT)?;
+    // Whoever names a key wants one: without --key there is none.
+    let key = match &key {
+        None => &[],
+        Some(named) if named.is_empty() => return Err(refused(answers::Refusal::KeyLength)),
+        Some(named) => named.as_slice(),
+    };
     let mut room = [0u8; 65];
-    let n = length(rt, o);
-    let number = blake::digest(key, text, first_mut(&mut room, n));
-    outputs::finish(
-        rt,
-        refused(number),
-        options::printed(o),
-        false,
-        first(&room, n),
-    )
+    let digest = &mut room[..length(inputs::number(rt, o, Opt::Length))];
+    blake::digest(key, &text, digest).map_err(refused)?;
+    outputs::finish(rt, o.printed(), false, digest)
 }
 
-// The length that is asked for; one that is too large is 65, which is refused like any.
-fn length(rt: &impl Env, o: Options) -> usize {
-    if !options::given(o, Opt::Length) {
-        return 64;
-    }
-    let n = inputs::number(rt, o, Opt::Length).value;
-    if n < 65 { n as usize } else { 65 }
+// The length, 64 if none is asked for; one that is too large is 65, which is refused like any.
+fn length(wanted: Option<u64>) -> usize
+    ensures { result ≤ 65 }
+{
+    wanted.unwrap_or(64).min(65) as usize
 }
 
-fn refused(number: u32) -> Refusal {
-    match number {
-        0 => refusal::none(),
-        1 => refusal::about(Opt::Key, 1, refusal::KEY_64),
-        4 => refusal::about(Opt::In, 4, refusal::TEXT_1048576),
-        _ => refusal::about(Opt::Length, number, refusal::NO_REASON),
-    }
+fn refused(why: answers::Refusal) -> Refusal {
+    let (option, reason) = match why {
+        answers::Refusal::KeyLength => (Opt::Key, Some(Why::Key64)),
+        answers::Refusal::TextLength => (Opt::In, Some(Why::Text1048576)),
+        _ => (Opt::Length, None),
+    };
+    refusal::about(option, What::Library(why), reason)
 }

@@ -1,17 +1,16 @@
 // The drawer file: its state is replaced before the number that it gave is used, and while that is under way a folder
 // beside it keeps every other `cards` from drawing.
-use crate::files::Status;
+use crate::files::{Kind, Status};
+use crate::names::Scratch;
 use crate::options::{Opt, Options};
-use crate::outputs::Made;
-use crate::refusal::Refusal;
+use crate::outputs::{Made, Place, Target};
+use crate::refusal::{Refusal, What, Why};
 use crate::system::System;
 use crate::text::Text;
-use crate::{files, inputs, names, options, outputs, refusal, text};
-use drawer::Drawer;
-use drawer_file::Loaded;
+use crate::{files, inputs, names, outputs, refusal, text};
+use drawer::{Drawer, Drawn};
 use std::io::{Error, ErrorKind, Read, Seek, SeekFrom};
 use std::rt::{Env, Files};
-use words::first;
 
 // The drawer, and the file in the folder beside it, open for its next state.
 #[derive(Drop)]
@@ -20,158 +19,151 @@ pub(crate) struct Held<F> {
     pub file: F,
 }
 
-// A reader's number, or what was refused.
-#[derive(Clone, Copy)]
-struct Chosen {
-    refusal: Refusal,
-    reader: u32,
-}
-
 // Makes a drawer file.
-pub(crate) fn start(rt: &impl System, o: Options) -> Refusal {
-    let chosen = reader_of(rt, o);
-    let r = chosen.refusal;
-    if r.number != 0 {
-        return r;
-    }
-    let d = drawer::start(chosen.reader, inputs::number(rt, o, Opt::Count).value);
-    match outputs::claim_name(rt, o, Opt::Drawer, false) {
-        Ok(made) => started(rt, made, o, d),
-        Err(bad) => bad,
-    }
+pub(crate) fn start(rt: &impl System, o: Options) -> Result<(), Refusal> {
+    let reader = reader_of(rt, o)?;
+    let count = inputs::number(rt, o, Opt::Count).unwrap_or(0);
+    let made = outputs::claim_name(rt, o, Opt::Drawer, false)?;
+    started(rt, made, o, drawer::start(reader, count))
 }
 
 // The number that is given, or one from the system's random source.
-fn reader_of(rt: &impl System, o: Options) -> Chosen {
+fn reader_of(rt: &impl System, o: Options) -> Result<u32, Refusal> {
+    if o.given(Opt::Reader) {
+        let reader = inputs::number(rt, o, Opt::Reader).unwrap_or(0);
+        return Ok((reader % 4294967296) as u32);
+    }
     let mut random = [0u8; 4];
-    if options::given(o, Opt::Reader) {
-        return Chosen {
-            refusal: refusal::none(),
-            reader: (inputs::number(rt, o, Opt::Reader).value % 4294967296) as u32,
-        };
-    }
-    let bad = rt.fill_bytes(&mut random).is_err();
-    Chosen {
-        refusal: no_random(bad),
-        reader: (words::load(&random, 0, 4).lo % 4294967296) as u32,
-    }
-}
-
-fn no_random(bad: bool) -> Refusal {
-    if bad {
-        return refusal::about(Opt::Reader, refusal::NOT_READ, refusal::RANDOM);
-    }
-    refusal::none()
+    rt.fill_bytes(&mut random).map_err(|_| refusal::about(
+        Opt::Reader,
+        What::NotRead,
+        Some(Why::Random),
+    ))?;
+    Ok(u32::from_le_bytes(random))
 }
 
 // A number that nobody gave is said when the drawer is there, and the drawer removed if that fails.
-fn started<R: System>(rt: &R, made: Made<R::File>, o: Options, d: Drawer) -> Refusal {
-    let stored = drawer_file::store(d);
-    let file = stored.bytes;
-    let r = outputs::write_file(rt, o, Opt::Drawer, made, &file);
-    if r.number != 0 {
-        return r;
+fn started<R: System>(rt: &R, made: Made<R::File>, o: Options, d: Drawer) -> Result<(), Refusal> {
+    outputs::write_file(rt, o, Opt::Drawer, made, &drawer_file::store(d))?;
+    let said = reader_said(rt, o, d.reader);
+    if said.is_err() {
+        names::unlink(rt, o.word_of(rt, Opt::Drawer));
     }
-    let s = reader_said(rt, o, d.reader);
-    if s.number != 0 {
-        names::unlink(rt, options::word_of(rt, o, Opt::Drawer));
-    }
-    s
+    said
 }
 
-fn reader_said(rt: &impl System, o: Options, reader: u32) -> Refusal {
-    if options::given(o, Opt::Reader) {
-        return refusal::none();
+fn reader_said(rt: &impl System, o: Options, reader: u32) -> Result<(), Refusal> {
+    if o.given(Opt::Reader) {
+        return Ok(());
     }
-    outputs::said(rt, text::number(b"reader ", reader as u64, b"\n"))
+    outputs::said(rt, text::formatted(format_args!("reader {reader}\n")))
 }
 
 // Draws a number and writes it.
-pub(crate) fn draw(rt: &impl System, o: Options) -> Refusal {
-    let h = match take(rt, o) {
-        Ok(h) => h,
-        Err(bad) => return bad,
-    };
-    let drawn = drawer::draw(h.drawer);
-    let number = drawn.bytes;
-    let next = drawn.next;
-    spend(
-        rt,
-        options::printed(o),
-        h,
-        next,
-        spent(drawn.number),
-        &number,
-    )
+pub(crate) fn draw(rt: &impl System, o: Options) -> Result<(), Refusal> {
+    let h = take(rt, o)?;
+    let made = nonce_of(rt, h.drawer);
+    spend(rt, o.printed(), h.file, made)
 }
 
-// What the number of a draw refuses.
-pub(crate) fn spent(number: u32) -> Refusal {
-    if number == 0 {
-        return refusal::none();
+// The nonce that is drawn, and the drawer's next state.
+fn nonce_of(rt: &impl System, d: Drawer) -> Result<(Vec<u8>, Drawer), Refusal> {
+    let drawn = drawer::draw(d).map_err(spent)?;
+    let nonce = outputs::joined(rt, &drawn.bytes, &[])?;
+    Ok((nonce, drawn.next))
+}
+
+// What is made under a nonce or an iv that is drawn, and the drawer's next state. What is wrong with the inputs is
+// refused before that the drawer is spent: so where it is, they are tried under zeros first. The two go on as a pair,
+// which is taken apart where it arrives: a struct would be no plainer.
+pub(crate) fn made_under<const N: usize, F: FnOnce(&[u8]) -> Result<Vec<u8>, Refusal>>(
+    drawn: Result<Drawn<N>, answers::Refusal>,
+    makes: F,
+) -> Result<(Vec<u8>, Drawer), Refusal>
+    requires { F.IsAlwaysCallable makes }
+{
+    match drawn {
+        Ok(drawn) => Ok((makes(&drawn.bytes)?, drawn.next)),
+        Err(why) => {
+            makes(&[0; N])?;
+            Err(spent(why))
+        }
     }
-    refusal::about(Opt::Drawer, number, refusal::NO_REASON)
 }
 
-// Keeps the next state, and then writes the output. Where something was refused, the drawer stays as it was.
+// What is refused where a draw is.
+fn spent(why: answers::Refusal) -> Refusal {
+    refusal::about(Opt::Drawer, What::Library(why), None)
+}
+
+// Keeps the next state in the file that is held for it, and then writes the output; `made` is both. Where something was
+// refused, the drawer stays as it was.
 pub(crate) fn spend<R: System>(
     rt: &R,
     o: Options,
-    h: Held<R::File>,
-    next: Drawer,
-    bad: Refusal,
-    bytes: &[u8],
-) -> Refusal {
-    let target = outputs::claim(rt, refusal::or(bad, in_lock(rt, o)), o, false);
-    let taken = outputs::refused(&target);
-    if taken.number != 0 {
-        let_go(rt, o, h.file);
-        return taken;
-    }
-    let kept = keep(rt, o, h.file, next);
-    if kept.number != 0 {
+    file: R::File,
+    made: Result<(Vec<u8>, Drawer), Refusal>,
+) -> Result<(), Refusal> {
+    let (bytes, next, target) = match claimed(rt, o, made) {
+        Ok(claimed) => claimed,
+        Err(bad) => {
+            let_go(rt, o, file);
+            return Err(bad);
+        }
+    };
+    if let Err(bad) = keep(rt, o, file, next) {
         outputs::release(rt, target);
-        return kept;
+        return Err(bad);
     }
-    outputs::write(rt, target, o, bytes)
+    outputs::write(rt, target, o, &bytes)
+}
+
+// The output and the next state, if they could be made, and what the output is written to.
+fn claimed<R: System>(
+    rt: &R,
+    o: Options,
+    made: Result<(Vec<u8>, Drawer), Refusal>,
+) -> Result<(Vec<u8>, Drawer, Target<R::File>), Refusal> {
+    let (bytes, next) = made?;
+    not_in_lock(rt, o)?;
+    Ok((bytes, next, outputs::claim(rt, o, false)?))
 }
 
 // The folder beside the drawer is removed when it is kept, and nothing else may lie in it.
-fn in_lock<R: Env + Files>(rt: &R, o: Options) -> Refusal {
-    let out = options::word_of(rt, o, Opt::Out);
-    if out.len > 0 && names::same_file(rt, names::folder(out), beside(rt, o)) {
-        return refusal::about(Opt::Out, refusal::NOT_WRITTEN, refusal::DRAWERS_OWN);
+fn not_in_lock<R: Env + Files>(rt: &R, o: Options) -> Result<(), Refusal> {
+    let out = o.word_of(rt, Opt::Out);
+    if !out.is_empty() && names::same_file(rt, names::folder(out), beside(rt, o)) {
+        return Err(refusal::about(Opt::Out, What::NotWritten, Some(Why::DrawersOwn)));
     }
-    refusal::none()
+    Ok(())
 }
 
 // Takes the drawer: nobody else can until it is kept or let go.
 pub(crate) fn take<R: System>(rt: &R, o: Options) -> Result<Held<R::File>, Refusal> {
-    let name = options::word_of(rt, o, Opt::Drawer);
-    let r = not_alone(names::status(rt, name, false));
-    if r.number != 0 {
-        return Err(r);
+    let name = o.word_of(rt, Opt::Drawer);
+    if let Ok(s) = files::led_to(rt, name, false) {
+        alone(s)?;
     }
-    if let Err(e) = names::open_read(rt, names::folder(name)) {
-        return Err(not_locked(rt, o, e)); // what is drawn could not be brought to the disk
-    }
-    if let Err(e) = files::make_private(rt, beside(rt, o)) {
-        return Err(not_locked(rt, o, e));
-    }
+    let refused = |e: Error| not_locked(rt, o, e);
+    names::open_read(rt, names::folder(name)).map_err(refused)?; // what is drawn must be brought to the disk
+    files::make_private(rt, beside(rt, o)).map_err(refused)?;
     taken(rt, o, name)
 }
 
 // A new state would take a symbolic link's place, or that of one of two names, and leave the old state under the other,
 // to be drawn from again.
-fn not_alone(s: Status) -> Refusal {
-    let kind = outputs::kind_of(s);
-    if kind == refusal::LINK {
-        return refusal::about(Opt::Drawer, refusal::DAMAGED, refusal::LINK);
-    }
-    if kind == refusal::NO_REASON && s.links > 1 {
-        return refusal::about(Opt::Drawer, refusal::DAMAGED, refusal::TWO_NAMES);
-    }
-    refusal::none()
+fn alone(s: Status) -> Result<(), Refusal> {
+    let why = match s.kind {
+        Kind::Link => Why::Link,
+        Kind::Regular if s.links > 1 => Why::TwoNames,
+        _ => return Ok(()),
+    };
+    Err(damaged(Some(why)))
+}
+
+// Of a drawer's file that holds no drawer, or not it alone.
+pub(crate) fn damaged(why: Option<Why>) -> Refusal {
+    refusal::about(Opt::Drawer, What::Damaged, why)
 }
 
 fn taken<R: System>(rt: &R, o: Options, name: Text) -> Result<Held<R::File>, Refusal> {
@@ -179,14 +171,11 @@ fn taken<R: System>(rt: &R, o: Options, name: Text) -> Result<Held<R::File>, Ref
         Ok(file) => file,
         Err(e) => {
             names::rmdir(rt, beside(rt, o));
-            return Err(refusal::by_system(Opt::Drawer, refusal::NOT_WRITTEN, e));
+            return Err(outputs::not_written(Opt::Drawer, e));
         }
     };
     match opened(rt, name) {
-        Ok(d) => Ok(Held {
-            drawer: d,
-            file: file,
-        }),
+        Ok(drawer) => Ok(Held { drawer, file }),
         Err(bad) => {
             let_go(rt, o, file);
             Err(bad)
@@ -196,89 +185,84 @@ fn taken<R: System>(rt: &R, o: Options, name: Text) -> Result<Held<R::File>, Ref
 
 fn not_locked<R: Env + Files>(rt: &R, o: Options, e: Error) -> Refusal {
     match e.kind() {
-        ErrorKind::AlreadyExists => in_use(names::status(rt, beside(rt, o), false)),
+        ErrorKind::AlreadyExists => in_use(rt, o),
         ErrorKind::NotFound | ErrorKind::NotADirectory => {
-            refusal::by_system(Opt::Drawer, refusal::NOT_READ, e)
+            refusal::by_system(Opt::Drawer, What::NotRead, e)
         }
-        _ => refusal::by_system(Opt::Drawer, refusal::NOT_WRITTEN, e),
+        _ => outputs::not_written(Opt::Drawer, e),
     }
 }
 
 // Only a folder is another's that draws, and may have gone by now; anything else has the name by chance, and nobody is
 // told to remove it.
-fn in_use(s: Status) -> Refusal {
-    if !s.good || outputs::kind_of(s) == refusal::A_DIRECTORY {
-        return refusal::about(Opt::Drawer, refusal::IN_USE, refusal::DRAWS);
-    }
-    refusal::about(Opt::Drawer, refusal::IN_USE, refusal::IN_THE_WAY)
+fn in_use<R: Env + Files>(rt: &R, o: Options) -> Refusal {
+    let why = match files::led_to(rt, beside(rt, o), false) {
+        Ok(s) if s.kind != Kind::Directory => Why::InTheWay,
+        _ => Why::Draws,
+    };
+    refusal::about(Opt::Drawer, What::InUse, Some(why))
 }
 
 fn opened(rt: &impl Files, name: Text) -> Result<Drawer, Refusal> {
-    let mut from = match names::open_update(rt, name) {
-        Ok(from) => from,
-        Err(e) => return Err(not_opened(rt, name, refusal::error(e))),
-    };
-    let k = kept_in(&mut from);
-    if k.number != 0 {
-        return Err(refusal::about(Opt::Drawer, refusal::DAMAGED, refusal::NO_REASON));
-    }
-    Ok(k.drawer)
+    let mut from = names::open_update(rt, name).map_err(|e| not_opened(rt, name, e))?;
+    kept_in(&mut from).ok_or(damaged(None))
 }
 
 // A drawer that can be read, as another user's, cannot be written.
-fn not_opened(rt: &impl Files, name: Text, error: usize) -> Refusal {
-    if outputs::kind_of(names::status(rt, name, true)) == refusal::NO_REASON {
-        if let Ok(_) = names::open_read(rt, name) {
-            return refusal::about(Opt::Drawer, refusal::NOT_WRITTEN, error);
-        }
+fn not_opened(rt: &impl Files, name: Text, e: Error) -> Refusal {
+    let what = if is_read(rt, name) {
+        What::NotWritten
+    } else {
+        What::NotRead
+    };
+    refusal::by_system(Opt::Drawer, what, e)
+}
+
+// Only a regular file is opened: to open a pipe could take forever.
+fn is_read(rt: &impl Files, name: Text) -> bool {
+    match files::led_to(rt, name, true) {
+        Ok(s) => s.kind == Kind::Regular && names::open_read(rt, name).is_ok(),
+        Err(_) => false,
     }
-    refusal::about(Opt::Drawer, refusal::NOT_READ, error)
 }
 
 // The drawer in an open file. What has no places, as a pipe, is none, and reading it could take forever.
-pub(crate) fn kept_in<F: Read + Seek>(from: &mut F) -> Loaded {
+pub(crate) fn kept_in<F: Read + Seek>(from: &mut F) -> Option<Drawer> {
     let mut file = [0u8; 45];
-    let n = read_start(from, &mut file);
-    drawer_file::load(first(&file, n))
+    let n = read_start(from, &mut file).unwrap_or(0);
+    drawer_file::load(&file[..n.min(45)]).ok()
 }
 
-fn read_start<F: Read + Seek>(from: &mut F, room: &mut [u8]) -> usize {
-    if from.seek(SeekFrom::End(0)).is_err() || from.seek(SeekFrom::Start(0)).is_err() {
-        return 0;
-    }
-    match from.read(room) {
-        Ok(n) => n,
-        Err(_) => 0,
-    }
+fn read_start<F: Read + Seek>(from: &mut F, room: &mut [u8]) -> Result<usize, Error> {
+    from.seek(SeekFrom::End(0))?;
+    from.seek(SeekFrom::Start(0))?;
+    from.read(room)
 }
 
 // The name of the folder that keeps the others out, and that of the next state in it, which nobody else can reach.
 pub(crate) fn beside(rt: &impl Env, o: Options) -> Text {
-    names::beside(options::word_of(rt, o, Opt::Drawer), b".next")
+    names::beside(o.word_of(rt, Opt::Drawer), b".next")
 }
 
 fn state(rt: &impl Env, o: Options) -> Text {
-    text::and(beside(rt, o), b"/state")
+    beside(rt, o).and(b"/state")
 }
 
 // Puts the next state in the drawer's place, with its rights, and waits until that is on the disk.
-fn keep<R: System>(rt: &R, o: Options, file: R::File, next: Drawer) -> Refusal {
-    let name = options::word_of(rt, o, Opt::Drawer);
-    let mut to = file;
-    let stored = drawer_file::store(next);
-    let rights = names::status(rt, name, false);
-    let r = outputs::filled(rt, o, Opt::Drawer, &mut to, rights, &stored.bytes);
-    let s = outputs::put_in_place(rt, r, Opt::Drawer, true, state(rt, o), name);
-    if s.number != 0 {
-        let_go(rt, o, to);
-        return s;
+fn keep<R: System>(rt: &R, o: Options, file: R::File, next: Drawer) -> Result<(), Refusal> {
+    let name = o.word_of(rt, Opt::Drawer);
+    let from = state(rt, o);
+    let made = Made {
+        place: Place::Taken(files::led_to(rt, name, false).ok()),
+        scratch: Scratch { file, name: from },
+    };
+    let kept = outputs::put_in_place(rt, o, Opt::Drawer, made, &drawer_file::store(next));
+    if kept.is_err() {
+        names::unlink(rt, from);
     }
-    drop(to);
     names::rmdir(rt, beside(rt, o));
-    match names::synced(rt, name) {
-        Ok(()) => refusal::none(),
-        Err(e) => refusal::by_system(Opt::Drawer, refusal::NOT_WRITTEN, e),
-    }
+    kept?;
+    names::synced(rt, name).map_err(|e| outputs::not_written(Opt::Drawer, e))
 }
 
 fn let_go<R: System>(rt: &R, o: Options, file: R::File) {

@@ -1,16 +1,36 @@
 // What a name leads to, as the system tells it.
+use crate::names;
+use crate::refusal::{A_DIRECTORY, Why};
 use crate::text::Text;
-use crate::{names, refusal};
 use std::fs::{DirBuilder, Metadata, OpenFile, Permissions};
-use std::io::{Error, Result};
+use std::io::Result;
 use std::os::unix::fs::{DirBuilderExt, MetadataExt, PermissionsExt};
 use std::rt::Files;
 
-// Not good where the system does not say; then it has the system's error number, and 0 of all else.
+// Special is what is neither of the others, as a pipe.
+#[derive(Clone, Copy, PartialEq, Eq)]
+pub(crate) enum Kind {
+    Regular,
+    Directory,
+    Link,
+    Special,
+}
+
+impl Kind {
+    // Why a file is not written over that is not a regular one.
+    pub(crate) fn kept(self) -> Option<Why> {
+        match self {
+            Kind::Regular => None,
+            Kind::Directory => Some(Why::System(A_DIRECTORY)),
+            Kind::Link => Some(Why::Link),
+            Kind::Special => Some(Why::Special),
+        }
+    }
+}
+
 #[derive(Clone, Copy)]
 pub(crate) struct Status {
-    pub good: bool,
-    pub error: usize,
+    pub kind: Kind,
     pub device: u64,
     pub inode: u64,
     pub mode: u32,
@@ -20,12 +40,39 @@ pub(crate) struct Status {
     pub empty: bool,
 }
 
-// What a name leads to; a symbolic link itself, if it is not to be followed.
-pub(crate) fn named(rt: &impl Files, name: Text, follow: bool) -> Status {
-    match told(rt, name, follow) {
-        Ok(s) => status_of(&s),
-        Err(e) => unknown_for(refusal::error(e)),
+impl From<&Metadata> for Status {
+    fn from(s: &Metadata) -> Status {
+        Status {
+            kind: kind_of(s.mode()),
+            device: s.dev(),
+            inode: s.ino(),
+            mode: s.mode(),
+            owner: s.uid(),
+            group: s.gid(),
+            links: s.nlink(),
+            empty: s.len() == 0,
+        }
     }
+}
+
+fn kind_of(mode: u32) -> Kind {
+    match mode & 0o170000 {
+        0o100000 => Kind::Regular,
+        0o040000 => Kind::Directory,
+        0o120000 => Kind::Link,
+        _ => Kind::Special,
+    }
+}
+
+// What a name leads to; a symbolic link itself, if it is not to be followed.
+pub(crate) fn led_to(rt: &impl Files, name: Text, follow: bool) -> Result<Status> {
+    let path = names::path(&name)?;
+    let told = if follow {
+        rt.metadata(path)?
+    } else {
+        rt.symlink_metadata(path)?
+    };
+    Ok(Status::from(&told))
 }
 
 // Makes a folder that nobody else can use. An error, as where the name is taken, leaves none.
@@ -43,48 +90,5 @@ const PRIVATE: u32 = 0o700;
 fn keep_private<F: OpenFile + Drop>(folder: Result<F>) {
     if let Ok(f) = folder {
         let _ = f.set_permissions(Permissions::from_mode(PRIVATE));
-    }
-}
-
-// Asks the system.
-fn told(rt: &impl Files, name: Text, follow: bool) -> Result<Metadata> {
-    let path = names::path(&name)?;
-    if follow {
-        rt.metadata(path)
-    } else {
-        rt.symlink_metadata(path)
-    }
-}
-
-// Of nothing.
-pub(crate) fn unknown() -> Status {
-    unknown_for(0)
-}
-
-fn unknown_for(error: usize) -> Status {
-    Status {
-        good: false,
-        error: error,
-        device: 0,
-        inode: 0,
-        mode: 0,
-        owner: 0,
-        group: 0,
-        links: 0,
-        empty: false,
-    }
-}
-
-fn status_of(s: &Metadata) -> Status {
-    Status {
-        good: true,
-        error: 0,
-        device: s.dev(),
-        inode: s.ino(),
-        mode: s.mode(),
-        owner: s.uid(),
-        group: s.gid(),
-        links: s.nlink(),
-        empty: s.len() == 0,
     }
 }

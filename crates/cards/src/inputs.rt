@@ -1,173 +1,137 @@
 // Inputs: files and standard input, raw or in hex, and what stands on the command line itself.
 use crate::options::{Opt, Options};
-use crate::refusal::Refusal;
+use crate::refusal::{Refusal, What, Why};
 use crate::system::System;
-use crate::{STANDARD_ERROR, names, options, refusal};
-use decimal::Decimal;
+use crate::{STANDARD_ERROR, names, refusal};
 use hexadecimal::Hex;
-use std::io::Read;
+use std::alloc::Global;
+use std::io::{Error, Read};
 use std::rt::Env;
-use words::first;
 
-// What was refused, or how many bytes were read: as many as the room has, where there are more.
-#[derive(Clone, Copy)]
-pub(crate) struct Got {
-    pub refusal: Refusal,
-    pub len: usize,
+// The option's word as a number, if it is one.
+pub(crate) fn number(rt: &impl Env, o: Options, option: Opt) -> Option<u64> {
+    decimal::number(o.word_of(rt, option).as_bytes())
 }
 
-// What a file gave: what is wrong with it as hex, or the error number, or 0; and how many bytes.
-#[derive(Clone, Copy)]
-struct Taken {
-    error: usize,
-    not_hex: bool,
-    len: usize,
-}
-
-pub(crate) fn found(len: usize) -> Got {
-    Got {
-        refusal: refusal::none(),
-        len: len,
-    }
-}
-
-pub(crate) fn refused(r: Refusal) -> Got {
-    Got { refusal: r, len: 0 }
-}
-
-// The option's word as a number.
-pub(crate) fn number(rt: &impl Env, o: Options, option: Opt) -> Decimal {
-    let w = options::word_of(rt, o, option);
-    decimal::number(first(&w.bytes, w.len))
-}
-
-// Reads the input that the option names, or standard input. Where something was refused before, that is handed on and
-// nothing is read.
+// Reads the input that the option names, or standard input. Of one that has more than `most` bytes a byte more is read,
+// so that what is too long is seen.
 pub(crate) fn read(
     rt: &impl System,
-    before: Refusal,
     o: Options,
     option: Opt,
-    room: &mut [u8],
-) -> Got {
-    if before.number != 0 {
-        return refused(before);
+    most: u32,
+) -> Result<Vec<u8>, Refusal> {
+    if !o.given(option) || o.is_dash(rt, option) {
+        return read_standard(rt, o, option, most);
     }
-    if !options::given(o, option) || options::is_dash(rt, o, option) {
-        return read_standard(rt, o, option, room);
+    let mut file = names::open_read(rt, o.word_of(rt, option)).map_err(|e| not_read(option, e))?;
+    taken_from(rt.alloc(), o, option, &mut file, most)
+}
+
+// The same for an option that may be left out: then there is no input.
+pub(crate) fn read_given(
+    rt: &impl System,
+    o: Options,
+    option: Opt,
+    most: u32,
+) -> Result<Option<Vec<u8>>, Refusal> {
+    if !o.given(option) {
+        return Ok(None);
     }
-    let mut file = match names::open_read(rt, options::word_of(rt, o, option)) {
-        Ok(file) => file,
-        Err(e) => return refused(refusal::by_system(option, refusal::NOT_READ, e)),
-    };
-    let t = taken_from(o, option, &mut file, room);
-    judged(option, t)
+    Ok(Some(read(rt, o, option, most)?))
 }
 
 // Whoever sits at a terminal is told that it is read, and how that ends.
-fn read_standard(rt: &impl System, o: Options, option: Opt, room: &mut [u8]) -> Got {
+fn read_standard(rt: &impl System, o: Options, option: Opt, most: u32) -> Result<Vec<u8>, Refusal> {
     if rt.reads_terminal() {
         io::write_all(
             STANDARD_ERROR,
             b"cards: reading from the terminal: Ctrl-D ends it\n",
         );
     }
-    let t = taken_from(o, option, &mut rt.reader(), room);
-    if t.error == refusal::A_DIRECTORY {
-        return refused(refusal::about(option, refusal::NOT_READ, refusal::CLOSED));
-    }
-    judged(option, t)
+    taken_from(rt.alloc(), o, option, &mut rt.reader(), most).map_err(or_closed)
 }
 
-// The same for an option that may be left out: the room's first bytes, as they are, then stand for the input.
-pub(crate) fn read_given(
-    rt: &impl System,
-    before: Refusal,
+// What stands for standard input where that is closed is a directory.
+fn or_closed(bad: Refusal) -> Refusal {
+    let mut r = bad;
+    if bad.why == Some(Why::System(refusal::A_DIRECTORY)) {
+        r.why = Some(Why::Closed);
+    }
+    r
+}
+
+// Where the system did not open or read a file.
+pub(crate) fn not_read(option: Opt, e: Error) -> Refusal {
+    refusal::by_system(option, What::NotRead, e)
+}
+
+fn taken_from<R: Read>(
+    alloc: Global,
     o: Options,
     option: Opt,
-    otherwise: usize,
-    room: &mut [u8],
-) -> Got {
-    if options::given(o, option) {
-        return read(rt, before, o, option, room);
-    }
-    Got {
-        refusal: before,
-        len: otherwise,
-    }
+    from: &mut R,
+    most: u32,
+) -> Result<Vec<u8>, Refusal> {
+    let no_memory = |_| refusal::no_memory(option, What::NotRead);
+    let mut bytes = vec![in alloc; 0u8; most as usize + 1].map_err(no_memory)?;
+    let n = if o.in_hex(option) {
+        hex_from(option, from, &mut bytes)?
+    } else {
+        raw_from(option, from, &mut bytes)?
+    };
+    bytes.truncate(n);
+    Ok(bytes)
 }
 
-fn judged(option: Opt, t: Taken) -> Got {
-    if t.not_hex {
-        return refused(refusal::about(option, refusal::NOT_HEX, t.error));
-    }
-    if t.error != 0 {
-        return refused(refusal::about(option, refusal::NOT_READ, t.error));
-    }
-    found(t.len)
-}
-
-fn taken_from<R: Read>(o: Options, option: Opt, from: &mut R, room: &mut [u8]) -> Taken {
-    if options::in_hex(o, option) {
-        return hex_from(from, room);
-    }
-    raw_from(from, room)
-}
-
-fn raw_from<R: Read>(from: &mut R, room: &mut [u8]) -> Taken {
+// Reads until the end, or until the room is full, and answers how many bytes it holds. A read that a signal cuts off is
+// refused; the library's `read_to_end` would try it again.
+fn raw_from<R: Read>(option: Opt, from: &mut R, room: &mut [u8]) -> Result<usize, Refusal> {
     let mut len = 0;
     while len < room.len() {
         match from.read(&mut room[len..]) {
-            Ok(0) => return gave(refusal::NO_REASON, false, len),
+            Ok(0) => return Ok(len),
             Ok(more) => len += more,
-            Err(e) => return gave(refusal::error(e), false, len),
+            Err(e) => return Err(not_read(option, e)),
         }
     }
-    gave(refusal::NO_REASON, false, len)
+    Ok(len)
 }
 
-fn gave(error: usize, not_hex: bool, len: usize) -> Taken {
-    Taken {
-        error: error,
-        not_hex: not_hex,
-        len: len,
-    }
-}
-
-// Reads until the first byte that is not hex, or until the room is full. Blanks fill no room, so the characters are
-// counted too.
-fn hex_from<R: Read>(from: &mut R, room: &mut [u8]) -> Taken {
+// Reads until the first byte that is not hex, or until the room is full, and answers how many bytes it holds. Blanks
+// fill no room, so the characters are counted too.
+fn hex_from<R: Read>(option: Opt, from: &mut R, room: &mut [u8]) -> Result<usize, Refusal> {
     let mut h = hexadecimal::begin();
     let mut chunk = io::large_buffer();
     let mut left: usize = 16777217;
     while left > 0 {
-        let n = match from.read(&mut chunk) {
-            Ok(n) => n,
-            Err(e) => return gave(refusal::error(e), false, h.len),
-        };
-        if n == 0 {
-            return gave(refusal::NO_REASON, !h.good || h.half, h.len);
-        }
+        let n = from.read(&mut chunk).map_err(|e| not_read(option, e))?;
         h = one_by_one(h, &chunk[..n], room);
-        if !h.good || h.len == room.len() {
-            return gave(refusal::NO_REASON, !h.good, h.len);
+        if !h.good || (n == 0 && !is_whole(&h)) {
+            return Err(refusal::about(option, What::NotHex, None));
         }
-        left = if n < left { left - n } else { 0 };
+        if n == 0 || h.len == room.len() {
+            return Ok(h.len);
+        }
+        left = left.saturating_sub(n);
     }
-    gave(refusal::TOO_MUCH_HEX, true, 0)
+    Err(refusal::about(option, What::NotHex, Some(Why::TooMuchHex)))
+}
+
+// Whether what was read is digits and white space, and no byte's second digit is missing.
+pub(crate) fn is_whole(h: &Hex) -> bool {
+    h.good && h.high.is_none()
 }
 
 // Takes in what comes before the first byte that is not hex, or that fills the room: that one decides, and not how the
 // input is cut into pieces.
 fn one_by_one(h: Hex, s: &[u8], room: &mut [u8]) -> Hex {
     let mut g = h;
-    let mut i = 0;
-    while i < s.len() {
+    for digit in s {
         if !g.good || g.len == room.len() {
             return g;
         }
-        g = hexadecimal::take_in(g, &s[i..i + 1], room);
-        i += 1;
+        g = hexadecimal::take_in(g, &[*digit], room);
     }
     g
 }

@@ -1,5 +1,4 @@
 // What the system does by a file's name, and what a name leads to.
-use crate::files::Status;
 use crate::text::Text;
 use crate::{files, text};
 use std::fs;
@@ -8,15 +7,11 @@ use std::io::{Error, ErrorKind, Result};
 use std::os::unix::fs::OpenOptionsExt;
 use std::random::RandomSource;
 use std::rt::Files;
-use words::first;
 
 // A name as the system takes it. The library's names are text, so one that is not UTF-8 leads nowhere: it is refused as
 // what cannot be a name, by the error number for that, EINVAL.
 pub(crate) fn path(name: &Text) -> Result<&str> {
-    match str::from_utf8(first(&name.bytes, name.len)) {
-        Ok(path) => Ok(path),
-        Err(_) => Err(Error::from_raw_os_error(22)),
-    }
+    str::from_utf8(name.as_bytes()).map_err(|_| Error::from_raw_os_error(22))
 }
 
 pub(crate) fn open_read<R: Files>(rt: &R, name: Text) -> Result<R::File> {
@@ -77,41 +72,27 @@ pub(crate) fn new_scratch<R: Files + RandomSource>(
     beside: Text,
     private: bool,
 ) -> Result<Scratch<R::File>> {
-    let s = private_scratch(rt, text::and(folder(beside), b"/.cards."))?;
+    let s = private_scratch(rt, folder(beside).and(b"/.cards."))?;
     if private {
         return Ok(s);
     }
     let Scratch { file, name } = s;
     drop(file);
     unlink(rt, name);
-    let made = create(rt, name)?;
-    Ok(Scratch {
-        file: made,
-        name: name,
-    })
+    let file = create(rt, name)?;
+    Ok(Scratch { file, name })
 }
 
 // Six letters and digits at random end its name. While that is taken, others are tried, as often as C's mkstemp does.
 fn private_scratch<R: Files + RandomSource>(rt: &R, start: Text) -> Result<Scratch<R::File>> {
     let mut n = random(rt);
-    let mut left: usize = 238328;
-    while left > 0 {
-        let name = text::and(start, &six(n));
+    for _ in 0..238328 {
+        let name = start.and(&six(n));
         match create_private(rt, name) {
-            Ok(file) => {
-                return Ok(Scratch {
-                    file: file,
-                    name: name,
-                });
-            }
-            Err(e) => {
-                if e.kind() != ErrorKind::AlreadyExists {
-                    return Err(e);
-                }
-            }
+            Ok(file) => return Ok(Scratch { file, name }),
+            Err(e) if e.kind() == ErrorKind::AlreadyExists => n = n.wrapping_add(7777),
+            Err(e) => return Err(e),
         }
-        n = n.wrapping_add(7777);
-        left -= 1;
     }
     Err(Error::from_raw_os_error(17)) // EEXIST
 }
@@ -120,18 +101,17 @@ fn private_scratch<R: Files + RandomSource>(rt: &R, start: Text) -> Result<Scrat
 fn random(rt: &impl RandomSource) -> u64 {
     let mut bytes = [0u8; 8];
     let _ = rt.fill_bytes(&mut bytes);
-    words::load(&bytes, 0, 8).lo
+    u64::from_le_bytes(bytes)
 }
 
 fn six(n: u64) -> [u8; 6] {
-    [
-        letter(n),
-        letter(n / 62),
-        letter(n / 3844),
-        letter(n / 238328),
-        letter(n / 14776336),
-        letter(n / 916132832),
-    ]
+    let mut rest = n;
+    let mut name = [0u8; 6];
+    for b in &mut name {
+        *b = letter(rest);
+        rest /= 62;
+    }
+    name
 }
 
 fn letter(n: u64) -> u8 {
@@ -148,65 +128,45 @@ fn create_private<R: Files>(rt: &R, name: Text) -> Result<R::File> {
         .open(rt, path(&name)?)
 }
 
-// What a name leads to; a symbolic link itself, if it is not to be followed.
-pub(crate) fn status(rt: &impl Files, name: Text, follow: bool) -> Status {
-    files::named(rt, name, follow)
-}
-
 // Whether two names lead to one file.
 pub(crate) fn same_file(rt: &impl Files, a: Text, b: Text) -> bool {
-    let s = status(rt, a, true);
-    let t = status(rt, b, true);
-    s.good && t.good && s.device == t.device && s.inode == t.inode
+    match (files::led_to(rt, a, true), files::led_to(rt, b, true)) {
+        (Ok(s), Ok(t)) => (s.device, s.inode) == (t.device, t.inode),
+        _ => false,
+    }
 }
 
 // Whether two names are one, be there such a file or not: the same in one folder.
 pub(crate) fn same_place(rt: &impl Files, a: Text, b: Text) -> bool {
-    text::is_text(base(a), base(b)) && same_file(rt, folder(a), folder(b))
+    parts(&a).1 == parts(&b).1 && same_file(rt, folder(a), folder(b))
 }
 
 // The folder that a name lies in.
 pub(crate) fn folder(name: Text) -> Text {
-    let n = folder_end(first(&name.bytes, name.len));
-    if n == 0 {
-        return text::of(b".");
+    match parts(&name) {
+        ([], _) => text::of(b"."),
+        (folder, _) => text::of(folder),
     }
-    text::of(first(&name.bytes, n))
 }
 
-// The name in that folder.
-fn base(name: Text) -> Text {
-    let n = folder_end(first(&name.bytes, name.len));
-    text::of(text::part(&name.bytes, n, name.len))
-}
-
-// Where the last slash of a name ends, 0 if it has none.
-fn folder_end(name: &[u8]) -> usize {
-    let mut i = name.len();
-    while i > 0 {
-        if name[i - 1] == b'/' {
-            return i;
-        }
-        i -= 1;
-    }
-    0
+// A name up to its last slash, nothing if it has none, and what it is called in that folder.
+fn parts(name: &Text) -> (&[u8], &[u8]) {
+    let bytes = name.as_bytes();
+    let slash = bytes.iter().rposition(|b| *b == b'/');
+    bytes.split_at(slash.map_or(0, |at| at + 1))
 }
 
 // The name of the file beside it that has this ending. A name in a folder has at most 255 bytes, so a long one is cut.
-pub(crate) fn beside(name: Text, ending: &[u8; 5]) -> Text {
-    let b = base(name);
-    let n = folder_end(first(&name.bytes, name.len));
-    let t = text::and(
-        text::of(first(&name.bytes, n)),
-        first(&b.bytes, shortened(&b)),
-    );
-    text::and(t, ending)
+pub(crate) fn beside(name: Text, ending: &[u8]) -> Text {
+    let (folder, called) = parts(&name);
+    text::of(folder).and(shortened(called)).and(ending)
 }
 
 // Before a letter that would be cut in two, since the library's names are text.
-fn shortened(b: &Text) -> usize {
-    match path(b) {
-        Ok(name) => name.floor_char_boundary(250),
-        Err(_) => { if b.len < 250 { b.len } else { 250 } }
-    }
+fn shortened(called: &[u8]) -> &[u8] {
+    let end = match str::from_utf8(called) {
+        Ok(called) => called.floor_char_boundary(250),
+        Err(_) => called.len().min(250),
+    };
+    &called[..end]
 }

@@ -1,13 +1,14 @@
 // The options, the table that names them, and which of them are given.
-ghost use Rattle.std.specs.Prelude.{◌<◌};
-
 use crate::commands::Command;
+use crate::text;
 use crate::text::Text;
-use crate::{commands, tables, text};
 use std::env::FillError;
+use std::fmt;
+use std::fmt::{Display, Write};
 use std::rt::Env;
 
-#[derive(Clone, Copy)]
+// In the order of their rows.
+#[derive(Clone, Copy, PartialEq, Eq)]
 pub(crate) enum Opt {
     Key,
     Book,
@@ -27,364 +28,317 @@ pub(crate) enum Opt {
     Verbose,
 }
 
-// Names and what stands behind them are filled with blanks. Each command has a column in `taken`: the option
-// must be given (!), may be given (x), or is not taken (.).
+// Those that name an input.
+pub(crate) const INPUTS: [Opt; 7] = [
+    Opt::Key,
+    Opt::Book,
+    Opt::LastBook,
+    Opt::Nonce,
+    Opt::Iv,
+    Opt::Data,
+    Opt::In,
+];
+
+// The option's name, what stands behind it, whether it has a twin in hex, and what it is. Each command has a column in
+// `taken`, of characters, so that it is read down the table: the option must be given (!), may be given (x), or is not
+// taken (.). What stands behind the option is "" for nothing: tools/completion reads the rows as they are written here.
 #[derive(Clone, Copy)]
-struct OptionRow {
-    option: Opt,
-    name: [u8; 9],
-    value: [u8; 9],
+pub(crate) struct OptionRow {
+    pub option: Opt,
+    name: &'static str,
+    value: &'static str,
     hex: bool,
-    taken: [u8; 13],
+    taken: &'static [u8; 13],
+    means: &'static str,
 }
 
 // The columns: seal open check encipher decipher digest start draw show book classes pack help.
-const OPTIONS: [OptionRow; 16] = [
+pub(crate) const OPTIONS: [OptionRow; 16] = [
     OptionRow {
         option: Opt::Key,
-        name: *b"key      ",
-        value: *b"FILE     ",
+        name: "key",
+        value: "FILE",
         hex: true,
-        taken: *b"xxx!!x.......",
+        taken: b"xxx!!x.......",
+        means: "the key: 16 bytes for a card, 128 for a wide block, 1 to 64 for a digest",
     },
     OptionRow {
         option: Opt::Book,
-        name: *b"book     ",
-        value: *b"FILE     ",
+        name: "book",
+        value: "FILE",
         hex: true,
-        taken: *b"xxx.......!..",
+        taken: b"xxx.......!..",
+        means: "this term's key book",
     },
     OptionRow {
         option: Opt::LastBook,
-        name: *b"last-book",
-        value: *b"FILE     ",
+        name: "last-book",
+        value: "FILE",
         hex: true,
-        taken: *b"xxx..........",
+        taken: b"xxx..........",
+        means: "last term's, which may be left out",
     },
     OptionRow {
         option: Opt::Nonce,
-        name: *b"nonce    ",
-        value: *b"FILE     ",
+        name: "nonce",
+        value: "FILE",
         hex: true,
-        taken: *b"x............",
+        taken: b"x............",
+        means: "the nonce, 12 bytes, never used before under this key",
     },
     OptionRow {
         option: Opt::Iv,
-        name: *b"iv       ",
-        value: *b"FILE     ",
+        name: "iv",
+        value: "FILE",
         hex: true,
-        taken: *b"...x.........",
+        taken: b"...x.........",
+        means: "the iv, 48 bytes, never used before under this key",
     },
     OptionRow {
         option: Opt::Data,
-        name: *b"data     ",
-        value: *b"FILE     ",
+        name: "data",
+        value: "FILE",
         hex: true,
-        taken: *b"xxx..........",
+        taken: b"xxx..........",
+        means: "associated data, without which the card does not open",
     },
     OptionRow {
         option: Opt::In,
-        name: *b"in       ",
-        value: *b"FILE     ",
+        name: "in",
+        value: "FILE",
         hex: true,
-        taken: *b"xxxxxx..xx.x.",
+        taken: b"xxxxxx..xx.x.",
+        means: "what is read; standard input if it is left out or -",
     },
     OptionRow {
         option: Opt::Out,
-        name: *b"out      ",
-        value: *b"FILE     ",
+        name: "out",
+        value: "FILE",
         hex: true,
-        taken: *b"xx.xxx.x.x...",
+        taken: b"xx.xxx.x.x...",
+        means: "where it is written; standard output if it is left out or -",
     },
     OptionRow {
         option: Opt::Label,
-        name: *b"label    ",
-        value: *b"WORDS    ",
+        name: "label",
+        value: "WORDS",
         hex: false,
-        taken: *b"xxx..........",
+        taken: b"xxx..........",
+        means: "the words themselves as associated data",
     },
     OptionRow {
         option: Opt::Class,
-        name: *b"class    ",
-        value: *b"NUMBER   ",
+        name: "class",
+        value: "NUMBER",
         hex: false,
-        taken: *b"xxx..........",
+        taken: b"xxx..........",
+        means: "the class whose key in the book is used",
     },
     OptionRow {
         option: Opt::Drawer,
-        name: *b"drawer   ",
-        value: *b"FILE     ",
+        name: "drawer",
+        value: "FILE",
         hex: false,
-        taken: *b"x..x..!!x....",
+        taken: b"x..x..!!x....",
+        means: "the drawer of nonces (cards help start)",
     },
     OptionRow {
         option: Opt::Reader,
-        name: *b"reader   ",
-        value: *b"NUMBER   ",
+        name: "reader",
+        value: "NUMBER",
         hex: false,
-        taken: *b"......x......",
+        taken: b"......x......",
+        means: "the reader's number, below 2^32; a random one if it is left out",
     },
     OptionRow {
         option: Opt::Count,
-        name: *b"count    ",
-        value: *b"NUMBER   ",
+        name: "count",
+        value: "NUMBER",
         hex: false,
-        taken: *b"......x......",
+        taken: b"......x......",
+        means: "the first count to be drawn; 0 if it is left out",
     },
     OptionRow {
         option: Opt::Length,
-        name: *b"length   ",
-        value: *b"NUMBER   ",
+        name: "length",
+        value: "NUMBER",
         hex: false,
-        taken: *b".....x.......",
+        taken: b".....x.......",
+        means: "1 to 64 bytes; 64 if it is left out",
     },
     OptionRow {
         option: Opt::Force,
-        name: *b"force    ",
-        value: *b"         ",
+        name: "force",
+        value: "",
         hex: false,
-        taken: *b"xx.xxx.x.x...",
+        taken: b"xx.xxx.x.x...",
+        means: "replaces the file that --out names",
     },
     OptionRow {
         option: Opt::Verbose,
-        name: *b"verbose  ",
-        value: *b"         ",
+        name: "verbose",
+        value: "",
         hex: false,
-        taken: *b"xxxxxxxxxxxx.",
+        taken: b"xxxxxxxxxxxx.",
+        means: "says that all was done",
     },
 ];
 
-// What each is, by its place in the table.
-const SENTENCES: [u8; 765] =
-    *b"0 the key: 16 bytes for a card, 128 for a wide block, 1 to 64 for a digest
-1 this term's key book
-2 last term's, which may be left out
-3 the nonce, 12 bytes, never used before under this key
-4 the iv, 48 bytes, never used before under this key
-5 associated data, without which the card does not open
-6 what is read; standard input if it is left out or -
-7 where it is written; standard output if it is left out or -
-8 the words themselves as associated data
-9 the class whose key in the book is used
-10 the drawer of nonces (cards help start)
-11 the reader's number, below 2^32; a random one if it is left out
-12 the first count to be drawn; 0 if it is left out
-13 1 to 64 bytes; 64 if it is left out
-14 replaces the file that --out names
-15 says that all was done
-";
+impl Opt {
+    fn row(self) -> OptionRow {
+        OPTIONS[self as usize]
+    }
 
-// For each option the word of the command line that has what is given, 0 if it is not given, where in that word it
-// begins, and whether it is in hex.
+    // The option of this name.
+    pub(crate) fn named(name: &[u8]) -> Option<Opt> {
+        OPTIONS
+            .iter()
+            .find(|row| row.name.as_bytes() == name)
+            .map(|row| row.option)
+    }
+
+    // Whether a standard stream can stand for the option: for those that have a twin in hex.
+    pub(crate) fn is_stream(self) -> bool {
+        self.row().hex
+    }
+
+    // Whether a word stands behind the option.
+    pub(crate) fn has_value(self) -> bool {
+        !self.row().value.is_empty()
+    }
+
+    pub(crate) fn is_taken(self, command: Command) -> bool {
+        self.row().is_taken(command)
+    }
+}
+
+impl Display for Opt {
+    fn fmt<W: Write>(&self, f: &mut fmt::Formatter<W>) -> fmt::Result {
+        write!(f, "--{}", self.row().name)
+    }
+}
+
+impl OptionRow {
+    pub(crate) fn is_taken(self, command: Command) -> bool {
+        self.column(command) != b'.'
+    }
+
+    pub(crate) fn is_needed(self, command: Command) -> bool {
+        self.column(command) == b'!'
+    }
+
+    // How the command takes the option; --version has no column.
+    fn column(self, command: Command) -> u8 {
+        let taken = self.taken;
+        taken.get(command as usize).copied().unwrap_or(b'.')
+    }
+
+    // A line of a command's help. [-hex] stands behind the name of one that has a twin.
+    fn line(self) -> Text {
+        let twin = if self.hex { "[-hex]" } else { "" };
+        text::formatted(format_args!("  --{}{} {}", self.name, twin, self.value))
+            .padded(26)
+            .and(self.means.as_bytes())
+            .and(b"\n")
+    }
+}
+
+// A line for each option that the command takes, as its help prints it.
+pub(crate) fn lines(command: Command) -> Text {
+    let mut t = Text::new();
+    for row in OPTIONS {
+        if row.is_taken(command) {
+            t.push(row.line().as_bytes());
+        }
+    }
+    t
+}
+
+// Where on the command line that stands which is given for an option: in which word, from which byte of it on, and
+// whether in hex.
+#[derive(Clone, Copy)]
+pub(crate) struct Argument {
+    pub word: usize,
+    pub from: usize,
+    pub hex: bool,
+}
+
+// What is given for each option; and whether what is written to standard output is in hex where no --out says so.
 #[derive(Clone, Copy)]
 pub(crate) struct Options {
-    pub at: [usize; 16],
-    pub from: [usize; 16],
-    pub hex: [bool; 16],
+    arguments: [Option<Argument>; 16],
+    printed: bool,
 }
 
-// The option's row in the table.
-pub(crate) fn place(option: Opt) -> usize
-    ensures { result < 16 }
-{
-    match option {
-        Opt::Key => 0,
-        Opt::Book => 1,
-        Opt::LastBook => 2,
-        Opt::Nonce => 3,
-        Opt::Iv => 4,
-        Opt::Data => 5,
-        Opt::In => 6,
-        Opt::Out => 7,
-        Opt::Label => 8,
-        Opt::Class => 9,
-        Opt::Drawer => 10,
-        Opt::Reader => 11,
-        Opt::Count => 12,
-        Opt::Length => 13,
-        Opt::Force => 14,
-        Opt::Verbose => 15,
+impl Options {
+    pub(crate) fn none() -> Options {
+        Options {
+            arguments: [None; 16],
+            printed: false,
+        }
     }
-}
 
-// The option in this row; the last for a row that there is not.
-pub(crate) fn at(row: usize) -> Opt {
-    if row < 16 {
-        let r = row_at(row);
-        let option = r.option;
-        return option;
+    // The options, with the output in hex where no --out says otherwise.
+    pub(crate) fn printed(self) -> Options {
+        let mut o = self;
+        o.printed = true;
+        o
     }
-    Opt::Verbose
-}
 
-// Where the option's word stands on the command line, 0 if it is not given.
-pub(crate) fn word_place(o: Options, option: Opt) -> usize {
-    let at = o.at;
-    at[place(option)]
-}
-
-pub(crate) fn given(o: Options, option: Opt) -> bool {
-    word_place(o, option) != 0
-}
-
-pub(crate) fn in_hex(o: Options, option: Opt) -> bool {
-    let hex = o.hex;
-    hex[place(option)]
-}
-
-// No options.
-pub(crate) fn none() -> Options {
-    Options {
-        at: [0; 16],
-        from: [0; 16],
-        hex: [false; 16],
+    pub(crate) fn give(&mut self, option: Opt, argument: Argument) {
+        self.arguments[option as usize] = Some(argument);
     }
-}
 
-// The options, with the output in hex where no --out says otherwise.
-pub(crate) fn printed(o: Options) -> Options {
-    let at = o.at;
-    let from = o.from;
-    let mut hex = o.hex;
-    let out = place(Opt::Out);
-    if at[out] == 0 {
-        hex[out] = true;
+    fn argument(self, option: Opt) -> Option<Argument> {
+        self.arguments[option as usize]
     }
-    Options {
-        at: at,
-        from: from,
-        hex: hex,
+
+    pub(crate) fn given(self, option: Opt) -> bool {
+        self.argument(option).is_some()
+    }
+
+    pub(crate) fn in_hex(self, option: Opt) -> bool {
+        match self.argument(option) {
+            Some(argument) => argument.hex,
+            None => self.printed && option == Opt::Out,
+        }
+    }
+
+    // The option's word, or what stands behind its = sign.
+    pub(crate) fn word_of(self, rt: &impl Env, option: Opt) -> Text {
+        match self.argument(option) {
+            Some(a) => {
+                let w = word(rt, a.word);
+                text::of(w.as_bytes().get(a.from..).unwrap_or(b""))
+            }
+            None => Text::new(),
+        }
+    }
+
+    // Whether the option's word is `-`, which stands for a standard stream.
+    pub(crate) fn is_dash(self, rt: &impl Env, option: Opt) -> bool {
+        option.is_stream() && matches!(self.word_of(rt, option).as_bytes(), b"-")
     }
 }
 
 // How many words the command line has, the tool's name among them.
 pub(crate) fn word_count(rt: &impl Env) -> usize {
-    let mut n: usize = 0;
-    while n < usize::MAX {
+    for n in 0..usize::MAX {
         if let Err(FillError::NotPresent) = rt.arg(n, &mut []) {
             return n;
         }
-        n += 1;
     }
-    n
+    usize::MAX
 }
 
-// The word at this place of the command line, none at 0 and where it is too long.
+// The word at this place of the command line, none where it is too long.
 pub(crate) fn word(rt: &impl Env, place: usize) -> Text {
-    match whole_word(rt, place) {
-        Ok(w) => w,
-        Err(_) => text::of(b""),
-    }
+    whole_word(rt, place).unwrap_or(Text::new())
 }
 
 // The same, or why there is none.
 pub(crate) fn whole_word(rt: &impl Env, place: usize) -> Result<Text, FillError> {
-    if place == 0 {
-        return Ok(text::of(b""));
-    }
     let mut w = io::buffer();
     let n = rt.arg(place, &mut w)?;
     Ok(text::of(&w[..n]))
-}
-
-// The option's word, or what stands behind its = sign.
-pub(crate) fn word_of(rt: &impl Env, o: Options, option: Opt) -> Text {
-    let row = place(option);
-    let at = o.at;
-    let from = o.from;
-    let w = word(rt, at[row]);
-    text::of(text::part(&w.bytes, from[row], w.len))
-}
-
-// Whether a standard stream can stand for the option: those up to --out.
-pub(crate) fn is_stream(option: Opt) -> bool {
-    place(option) <= place(Opt::Out)
-}
-
-// Whether the option's word is `-`, which stands for a standard stream.
-pub(crate) fn is_dash(rt: &impl Env, o: Options, option: Opt) -> bool {
-    is_stream(option) && text::is(word_of(rt, o, option), b"-")
-}
-
-// The one function that has the table in view, since each that has it costs its check.
-fn row_at(i: usize) -> OptionRow
-    requires { i < 16 }
-{
-    OPTIONS[i]
-}
-
-// The row of this name, 16 if there is none.
-pub(crate) fn row_of(name: &[u8]) -> usize {
-    let mut i = 0;
-    while i < 16 {
-        let row = row_at(i);
-        let called = row.name;
-        if text::is_name(&called, name) {
-            return i;
-        }
-        i += 1;
-    }
-    16
-}
-
-// Whether the option in this row has a twin in hex.
-pub(crate) fn has_twin(row: usize) -> bool {
-    row < 16 && row_at(row).hex
-}
-
-// How the command takes the option in this row: !, x or a dot.
-pub(crate) fn taken(command: Command, row: usize) -> u8 {
-    if row < 16 {
-        let r = row_at(row);
-        let taken = r.taken;
-        return taken[commands::place(command)];
-    }
-    b'.'
-}
-
-// Whether a word stands behind the option in this row.
-pub(crate) fn has_value(row: usize) -> bool {
-    if row < 16 {
-        let r = row_at(row);
-        let value = r.value;
-        return value[0] != b' ';
-    }
-    false
-}
-
-// The option's name, with its dashes.
-pub(crate) fn name(option: Opt) -> Text {
-    let row = row_at(place(option));
-    let name = row.name;
-    text::and_text(text::of(b"--"), text::of_name(&name))
-}
-
-// A line for each option that the command takes, as its help prints it.
-pub(crate) fn lines(command: Command) -> Text {
-    let mut t = text::of(b"");
-    let mut i = 0;
-    while i < 16 {
-        if taken(command, i) != b'.' {
-            t = text::and_text(t, line(i));
-        }
-        i += 1;
-    }
-    t
-}
-
-// [-hex] stands behind the name of one that has a twin.
-fn line(i: usize) -> Text
-    requires { i < 16 }
-{
-    let row = row_at(i);
-    let name = row.name;
-    let value = row.value;
-    let t = text::and_text(text::of(b"  --"), text::of_name(&name));
-    let u = if row.hex {
-        text::and(t, b"[-hex] ")
-    } else {
-        text::and(t, b" ")
-    };
-    let v = text::to(text::and_text(u, text::of_name(&value)), 26);
-    text::and(text::and(v, tables::entry(&SENTENCES, i as u64)), b"\n")
 }

@@ -1,67 +1,82 @@
 // Outputs: standard output, or a file that is written beside its place and then takes it.
-ghost use Rattle.std.specs.Prelude.{◌≤◌, ◌<◌};
+ghost use Rattle.std.specs.Prelude.{◌≤◌, length};
 
-use crate::files::Status;
+use crate::files::{Kind, Status};
 use crate::names::Scratch;
-use crate::options::{Opt, Options};
-use crate::refusal::Refusal;
+use crate::options::{INPUTS, Opt, Options};
+use crate::refusal::{NO_SUCH_FILE, Refusal, What, Why};
 use crate::system::System;
 use crate::text::Text;
-use crate::{drawers, files, names, options, refusal};
+use crate::{drawers, files, names, refusal, text};
 use std::fs::{OpenFile, Permissions};
 use std::io::{Error, ErrorKind, Print, Write};
 use std::os::unix::fs::PermissionsExt;
 use std::rt::{Env, Files};
 
-// What was refused, or what the output is written to.
+// What the output is written to.
 #[derive(Drop)]
 pub(crate) enum Target<F> {
-    Refused(Refusal),
     Standard,
     File(Made<F>),
 }
 
-// What a file is made from: whether one is replaced, whose rights are kept, and the file that takes its place.
+// A file that is to take a place, and what is there now.
 #[derive(Drop)]
 pub(crate) struct Made<F> {
-    pub there: bool,
-    pub rights: Status,
+    pub place: Place,
     pub scratch: Scratch<F>,
 }
 
-// Sees that the output can be written, and writes the bytes; a private one nobody else can read. Where something was
-// refused before, that is handed on and nothing is done, here and in claim and write.
+// Nothing, or a file that is replaced, whose rights are kept where they are known.
+#[derive(Clone, Copy)]
+pub(crate) enum Place {
+    Free,
+    Taken(Option<Status>),
+}
+
+// Sees that the output can be written, and writes the bytes; a private one nobody else can read.
 pub(crate) fn finish(
     rt: &impl System,
-    before: Refusal,
     o: Options,
     private: bool,
     bytes: &[u8],
-) -> Refusal {
-    write(rt, claim(rt, before, o, private), o, bytes)
+) -> Result<(), Refusal> {
+    let target = claim(rt, o, private)?;
+    write(rt, target, o, bytes)
+}
+
+// A room of this length, of zeros, for an output.
+pub(crate) fn room(rt: &impl System, len: usize) -> Result<Vec<u8>, Refusal> {
+    vec![in rt.alloc(); 0u8; len].map_err(|_| refusal::no_memory(Opt::Out, What::NotWritten))
+}
+
+// An output of two parts, one behind the other.
+pub(crate) fn joined(rt: &impl System, a: &[u8], b: &[u8]) -> Result<Vec<u8>, Refusal> {
+    let no_memory = |_| refusal::no_memory(Opt::Out, What::NotWritten);
+    let mut bytes = a.to_vec(rt.alloc()).map_err(no_memory)?;
+    bytes.extend_from_slice(b).map_err(no_memory)?;
+    Ok(bytes)
+}
+
+// Where the system did not write or make a file.
+pub(crate) fn not_written(option: Opt, e: Error) -> Refusal {
+    refusal::by_system(option, What::NotWritten, e)
 }
 
 fn is_standard(rt: &impl Env, o: Options) -> bool {
-    !options::given(o, Opt::Out) || options::is_dash(rt, o, Opt::Out)
+    !o.given(Opt::Out) || o.is_dash(rt, Opt::Out)
 }
 
 // Makes the file that is to take the output's place, unless that is there and --force does not ask for it.
 pub(crate) fn claim<R: System>(
     rt: &R,
-    before: Refusal,
     o: Options,
     private: bool,
-) -> Target<R::File> {
-    if before.number != 0 {
-        return Target::Refused(before);
-    }
+) -> Result<Target<R::File>, Refusal> {
     if is_standard(rt, o) {
-        return Target::Standard;
+        return Ok(Target::Standard);
     }
-    match claim_name(rt, o, Opt::Out, private) {
-        Ok(made) => Target::File(made),
-        Err(r) => Target::Refused(r),
-    }
+    Ok(Target::File(claim_name(rt, o, Opt::Out, private)?))
 }
 
 pub(crate) fn claim_name<R: System>(
@@ -70,33 +85,26 @@ pub(crate) fn claim_name<R: System>(
     option: Opt,
     private: bool,
 ) -> Result<Made<R::File>, Refusal> {
-    let name = options::word_of(rt, o, option);
-    let s = names::status(rt, name, false);
-    if s.good {
-        return over(rt, o, option, name, private, s);
+    let name = o.word_of(rt, option);
+    let why = match files::led_to(rt, name, false) {
+        Ok(s) => return over(rt, o, option, name, private, s),
+        Err(e) => Why::from(e),
+    };
+    if name.is_empty() || why != Why::System(NO_SUCH_FILE) {
+        return Err(refusal::about(option, What::NotWritten, Some(why)));
     }
-    if name.len == 0 || s.error != refusal::NO_SUCH_FILE {
-        return Err(refusal::about(option, refusal::NOT_WRITTEN, s.error));
-    }
-    with_scratch(rt, option, name, private, false, s)
+    made_for(rt, option, name, private, Place::Free)
 }
 
-fn with_scratch<R: System>(
+fn made_for<R: System>(
     rt: &R,
     option: Opt,
     name: Text,
     private: bool,
-    there: bool,
-    rights: Status,
+    place: Place,
 ) -> Result<Made<R::File>, Refusal> {
-    match names::new_scratch(rt, name, private) {
-        Ok(scratch) => Ok(Made {
-            there: there,
-            rights: rights,
-            scratch: scratch,
-        }),
-        Err(e) => Err(refusal::by_system(option, refusal::NOT_WRITTEN, e)),
-    }
+    let scratch = names::new_scratch(rt, name, private).map_err(|e| not_written(option, e))?;
+    Ok(Made { place, scratch })
 }
 
 // Over what is there. An empty file may be what a killed run left, and gives no rights to keys.
@@ -108,76 +116,44 @@ fn over<R: System>(
     private: bool,
     s: Status,
 ) -> Result<Made<R::File>, Refusal> {
-    let why = kept_for(rt, name, s);
-    let replaceable = why == refusal::NO_REASON && options::is_stream(option);
-    if !options::given(o, Opt::Force) {
+    let why = kept_for(rt, name, s.kind);
+    let replaceable = why.is_none() && option.is_stream();
+    if !o.given(Opt::Force) {
         let force_helps = replaceable && !is_read(rt, o, name);
-        return Err(exists(option, force_helps));
+        let why = force_helps.then_some(Why::ForceHelps);
+        return Err(refusal::about(option, What::Exists, why));
     }
-    if replaceable {
-        let rights = if private && s.empty {
-            files::unknown()
-        } else {
-            s
-        };
-        return with_scratch(rt, option, name, true, true, rights);
+    if !replaceable {
+        return Err(refusal::about(option, What::NotWritten, why));
     }
-    Err(refusal::about(option, refusal::NOT_WRITTEN, why))
+    let rights = if private && s.empty { None } else { Some(s) };
+    made_for(rt, option, name, true, Place::Taken(rights))
 }
 
-fn exists(option: Opt, force_helps: bool) -> Refusal {
-    if force_helps {
-        return refusal::about(option, refusal::EXISTS, refusal::FORCE_HELPS);
-    }
-    refusal::about(option, refusal::EXISTS, refusal::NO_REASON)
-}
-
-// Whether the name leads to a file that is read as key, book, nonce, iv or data: the rows before --in.
+// Whether the name leads to a file that is read as key, book, nonce, iv or data.
 pub(crate) fn is_read<R: Env + Files>(rt: &R, o: Options, name: Text) -> bool {
-    let end = options::place(Opt::In);
-    let mut row = 0;
-    while row < end {
-        let option = options::at(row);
-        if options::given(o, option) && names::same_file(rt, name, source(rt, o, option)) {
-            return true;
-        }
-        row += 1;
-    }
-    false
+    INPUTS.iter().any(|option| {
+        *option != Opt::In && o.given(*option) && names::same_file(rt, name, source(rt, o, *option))
+    })
 }
 
 // The name of what is read: that of standard input leads to what stands for it.
 fn source(rt: &impl Env, o: Options, option: Opt) -> Text {
-    if options::is_dash(rt, o, option) {
-        return crate::text::of(b"/dev/stdin");
+    if o.is_dash(rt, option) {
+        return text::of(b"/dev/stdin");
     }
-    options::word_of(rt, o, option)
+    o.word_of(rt, option)
 }
 
-// Why a file is not replaced: it is none, it cannot be written, or it is a drawer, whose numbers could be drawn again.
-fn kept_for(rt: &impl Files, name: Text, s: Status) -> usize {
-    let kind = kind_of(s);
-    if kind != refusal::NO_REASON {
-        return kind;
+// Why a file is not replaced, if it is not: it is none, it cannot be written, or it is a drawer, whose numbers could be
+// drawn again.
+fn kept_for(rt: &impl Files, name: Text, kind: Kind) -> Option<Why> {
+    if kind != Kind::Regular {
+        return kind.kept();
     }
-    let mut file = match names::open_update(rt, name) {
-        Ok(file) => file,
-        Err(e) => return refusal::error(e),
-    };
-    let k = drawers::kept_in(&mut file);
-    if k.number == 0 {
-        return refusal::DRAWER_FILE;
-    }
-    refusal::NO_REASON
-}
-
-// What a file is that is not a regular one.
-pub(crate) fn kind_of(s: Status) -> usize {
-    match s.mode & 0o170000 {
-        0o100000 => refusal::NO_REASON,
-        0o040000 => refusal::A_DIRECTORY,
-        0o120000 => refusal::LINK,
-        _ => refusal::SPECIAL,
+    match names::open_update(rt, name) {
+        Ok(mut file) => drawers::kept_in(&mut file).map(|_| Why::DrawerFile),
+        Err(e) => Some(Why::from(e)),
     }
 }
 
@@ -190,39 +166,27 @@ pub(crate) fn release<F: Drop>(rt: &impl Files, target: Target<F>) {
     }
 }
 
-// What a target refuses.
-pub(crate) fn refused<F>(target: &Target<F>) -> Refusal {
-    match target {
-        Target::Refused(bad) => *bad,
-        _ => refusal::none(),
-    }
-}
-
 // Writes the output.
 pub(crate) fn write<R: System>(
     rt: &R,
     target: Target<R::File>,
     o: Options,
     bytes: &[u8],
-) -> Refusal {
+) -> Result<(), Refusal> {
     match target {
-        Target::Refused(bad) => bad,
         Target::Standard => printed(sent(o, Opt::Out, &mut std::io::writer(rt), bytes)),
         Target::File(made) => write_file(rt, o, Opt::Out, made, bytes),
     }
 }
 
 // What is refused where standard output did not take it all.
-pub(crate) fn printed(sent: Result<(), Error>) -> Refusal {
-    match sent {
-        Ok(()) => refusal::none(),
-        Err(e) => refusal::by_system(Opt::Out, refusal::NOT_WRITTEN, e),
-    }
+pub(crate) fn printed(sent: Result<(), Error>) -> Result<(), Refusal> {
+    sent.map_err(|e| not_written(Opt::Out, e))
 }
 
 // Writes a text to standard output.
-pub(crate) fn said(rt: &impl Print, t: Text) -> Refusal {
-    printed(rt.write_all(words::first(&t.bytes, t.len)))
+pub(crate) fn said(rt: &impl Print, t: Text) -> Result<(), Refusal> {
+    printed(rt.write_all(t.as_bytes()))
 }
 
 // Writes the file that the option names. That its folder is on the disk too is not waited for where it cannot be.
@@ -232,85 +196,67 @@ pub(crate) fn write_file<R: System>(
     option: Opt,
     made: Made<R::File>,
     bytes: &[u8],
-) -> Refusal {
-    let name = options::word_of(rt, o, option);
-    let Made {
-        there,
-        rights,
-        scratch,
-    } = made;
-    let Scratch {
-        mut file,
-        name: beside,
-    } = scratch;
-    let r = filled(rt, o, option, &mut file, rights, bytes);
-    drop(file);
-    let t = put_in_place(rt, r, option, there, beside, name);
-    if t.number != 0 {
+) -> Result<(), Refusal> {
+    let name = o.word_of(rt, option);
+    let beside = made.scratch.name;
+    let placed = put_in_place(rt, o, option, made, bytes);
+    if placed.is_err() {
         names::unlink(rt, beside);
-        return t;
+        return placed;
     }
     let _ = names::synced(rt, name);
-    t
+    Ok(())
 }
 
-// Gives a file the name that the option names, unless something was refused before. A name that is free is first taken
-// by an empty file: so nothing is replaced that somebody else makes at that moment.
-pub(crate) fn put_in_place(
-    rt: &impl Files,
-    before: Refusal,
-    option: Opt,
-    there: bool,
-    from: Text,
-    to: Text,
-) -> Refusal {
-    let r = refusal::or(before, taken(rt, before, option, there, to));
-    if r.number != 0 {
-        return r;
-    }
-    match names::rename(rt, from, to) {
-        Ok(()) => r,
-        Err(e) => {
-            if !there {
-                names::unlink(rt, to);
-            }
-            refusal::by_system(option, refusal::NOT_WRITTEN, e)
-        }
-    }
-}
-
-fn taken(rt: &impl Files, before: Refusal, option: Opt, there: bool, name: Text) -> Refusal {
-    if there || before.number != 0 {
-        return before;
-    }
-    match names::create(rt, name) {
-        Ok(_) => before,
-        Err(e) if e.kind() == ErrorKind::AlreadyExists => {
-            refusal::about(option, refusal::EXISTS, refusal::NO_REASON)
-        }
-        Err(e) => refusal::by_system(option, refusal::NOT_WRITTEN, e),
-    }
-}
-
-// Writes all to a file, gives it the rights of the one that it replaces, and waits until it is on the disk.
-pub(crate) fn filled<R: System>(
+// Fills the file, and gives it the name that the option names. A name that is free is first taken by an empty file: so
+// nothing is replaced that somebody else makes at that moment.
+pub(crate) fn put_in_place<R: System>(
     rt: &R,
     o: Options,
     option: Opt,
-    file: &mut R::File,
-    rights: Status,
+    made: Made<R::File>,
     bytes: &[u8],
-) -> Refusal {
-    if let Err(e) = sent(o, option, file, bytes) {
-        return refusal::by_system(option, refusal::NOT_WRITTEN, e);
+) -> Result<(), Refusal> {
+    let Made { place, scratch } = made;
+    filled(rt, o, option, scratch.file, place, bytes)?;
+    let name = o.word_of(rt, option);
+    let free = matches!(place, Place::Free);
+    if free {
+        taken(rt, option, name)?;
     }
-    if rights.good && !rights_set(rt, file, rights) {
-        return refusal::about(option, refusal::NOT_WRITTEN, refusal::RIGHTS);
+    let renamed = names::rename(rt, scratch.name, name);
+    if free && renamed.is_err() {
+        names::unlink(rt, name);
     }
-    match file.sync_all() {
-        Ok(()) => refusal::none(),
-        Err(e) => refusal::by_system(option, refusal::NOT_WRITTEN, e),
+    renamed.map_err(|e| not_written(option, e))
+}
+
+fn taken(rt: &impl Files, option: Opt, name: Text) -> Result<(), Refusal> {
+    match names::create(rt, name) {
+        Ok(_) => Ok(()),
+        Err(e) if e.kind() == ErrorKind::AlreadyExists => {
+            Err(refusal::about(option, What::Exists, None))
+        }
+        Err(e) => Err(not_written(option, e)),
     }
+}
+
+// Writes all to a file, gives it the rights of the one that it replaces, waits until it is on the disk, and closes it.
+fn filled<R: System>(
+    rt: &R,
+    o: Options,
+    option: Opt,
+    mut file: R::File,
+    place: Place,
+    bytes: &[u8],
+) -> Result<(), Refusal> {
+    sent(o, option, &mut file, bytes).map_err(|e| not_written(option, e))?;
+    if let Place::Taken(Some(s)) = place {
+        if !rights_set(rt, &file, s) {
+            return Err(refusal::about(option, What::NotWritten, Some(Why::Rights)));
+        }
+    }
+    file.sync_all().map_err(|e| not_written(option, e))
 }
 
 // The group is kept, or nothing is: its rights would go to another. Of the owner only root can keep another's.
@@ -323,37 +269,24 @@ fn rights_set<R: System>(rt: &R, file: &R::File, s: Status) -> bool {
 }
 
 fn sent<W: Write>(o: Options, option: Opt, to: &mut W, bytes: &[u8]) -> Result<(), Error> {
-    if options::in_hex(o, option) {
+    if o.in_hex(option) {
         return sent_in_hex(to, bytes);
     }
     to.write_all(bytes)
 }
 
-// One line.
+// One line, in pieces of 4096 digits.
 pub(crate) fn sent_in_hex<W: Write>(to: &mut W, bytes: &[u8]) -> Result<(), Error> {
-    let mut at = 0;
-    while at < bytes.len() {
-        let end = chunk_end(at, bytes.len());
-        chunk_sent(to, &bytes[at..end])?;
-        at = end;
+    for piece in bytes.chunks(2048) {
+        piece_sent(to, piece)?;
     }
     to.write_all(b"\n")
 }
 
-// 2048 bytes more, or what is left.
-fn chunk_end(at: usize, len: usize) -> usize
-    requires { at < len }
-    ensures { (at < result) × (result ≤ len) }
+fn piece_sent<W: Write>(to: &mut W, piece: &[u8]) -> Result<(), Error>
+    requires { length piece.now ≤ 2048 }
 {
-    if len - at > 2048 { at + 2048 } else { len }
-}
-
-fn chunk_sent<W: Write>(to: &mut W, bytes: &[u8]) -> Result<(), Error> {
     let mut digits = io::buffer();
-    hexadecimal::spell(bytes, &mut digits);
-    to.write_all(words::first(&digits, twice(bytes.len())))
-}
-
-fn twice(n: usize) -> usize {
-    if n < 4096 { 2 * n } else { 0 }
+    let _ = hexadecimal::spell(piece, &mut digits); // all digits have room
+    to.write_all(&digits[..2 * piece.len()])
 }

@@ -1,197 +1,162 @@
 // Which options go together, and which words are numbers: what is judged before anything is read.
 use crate::commands::Command;
-use crate::options::{Opt, Options, given};
-use crate::refusal::{Refusal, or};
-use crate::{drawers, inputs, names, options, outputs, refusal};
+use crate::options::{INPUTS, OPTIONS, Opt, Options};
+use crate::refusal::{Refusal, What, Why};
+use crate::{drawers, inputs, names, outputs, refusal};
 use std::io::IsTerminal;
 use std::rt::{Env, Files};
 
-// What is refused first. No rule has an effect, so all are judged.
+// What is refused first.
 pub(crate) fn judged<R: Env + Files>(
     rt: &R,
     out: &impl IsTerminal,
     command: Command,
     o: Options,
-) -> Refusal {
-    let r = or(
-        required(command, o),
-        or(together(command, o), numbers(rt, o)),
-    );
-    let s = or(
-        standard_input(rt, command, o),
-        or(not_in_drawer(rt, o), not_over_input(rt, o)),
-    );
-    or(r, or(s, not_to_terminal(out, command, o)))
+) -> Result<(), Refusal> {
+    required(command, o)?;
+    together(command, o)?;
+    numbers(rt, o)?;
+    standard_input(rt, command, o)?;
+    not_in_drawer(rt, o)?;
+    not_over_input(rt, o)?;
+    not_to_terminal(out, command, o)
 }
 
 // What the table has as needed.
-fn required(command: Command, o: Options) -> Refusal {
-    let at = o.at;
-    let mut row = 0;
-    while row < 16 {
-        if options::taken(command, row) == b'!' && at[row] == 0 {
-            return against(options::at(row), refusal::NEEDED);
+fn required(command: Command, o: Options) -> Result<(), Refusal> {
+    for row in OPTIONS {
+        if row.is_needed(command) {
+            needs(o, row.option)?;
         }
-        row += 1;
     }
-    refusal::none()
+    Ok(())
 }
 
-fn together(command: Command, o: Options) -> Refusal {
+fn together(command: Command, o: Options) -> Result<(), Refusal> {
     match command {
-        Command::Seal => or(for_card(o), one_of(o, Opt::Drawer, Opt::Nonce)),
-        Command::Open => for_card(o),
-        Command::Check => for_card(o),
+        Command::Seal => {
+            for_card(o)?;
+            one_of(o, Opt::Drawer, Opt::Nonce)
+        }
+        Command::Open | Command::Check => for_card(o),
         Command::Encipher => one_of(o, Opt::Drawer, Opt::Iv),
         Command::Show => not_both(o, Opt::Drawer, Opt::In),
-        _ => refusal::none(),
+        _ => Ok(()),
     }
 }
 
-fn for_card(o: Options) -> Refusal {
-    let key = or(one_of(o, Opt::Key, Opt::Book), with_book(o));
-    or(key, not_both(o, Opt::Data, Opt::Label))
+fn for_card(o: Options) -> Result<(), Refusal> {
+    one_of(o, Opt::Key, Opt::Book)?;
+    with_book(o)?;
+    not_both(o, Opt::Data, Opt::Label)
 }
 
 // With a book a class is needed, and without one neither that nor last term's book may be there.
-fn with_book(o: Options) -> Refusal {
-    if given(o, Opt::Book) {
+fn with_book(o: Options) -> Result<(), Refusal> {
+    if o.given(Opt::Book) {
         return needs(o, Opt::Class);
     }
-    or(barred(o, Opt::Class), barred(o, Opt::LastBook))
+    barred(o, Opt::Class)?;
+    barred(o, Opt::LastBook)
 }
 
-fn needs(o: Options, option: Opt) -> Refusal {
-    if given(o, option) {
-        return refusal::none();
-    }
-    against(option, refusal::NEEDED)
+fn needs(o: Options, option: Opt) -> Result<(), Refusal> {
+    refuse(!o.given(option), option, Why::Needed)
 }
 
-fn barred(o: Options, option: Opt) -> Refusal {
-    if given(o, option) {
-        return against(option, refusal::NOT_TOGETHER);
-    }
-    refusal::none()
+fn barred(o: Options, option: Opt) -> Result<(), Refusal> {
+    refuse(o.given(option), option, Why::NotTogether)
 }
 
-fn not_both(o: Options, a: Opt, b: Opt) -> Refusal {
-    if given(o, a) {
-        return barred(o, b);
-    }
-    refusal::none()
+fn not_both(o: Options, a: Opt, b: Opt) -> Result<(), Refusal> {
+    refuse(o.given(a) && o.given(b), b, Why::NotTogether)
 }
 
-fn one_of(o: Options, a: Opt, b: Opt) -> Refusal {
-    if !given(o, b) {
+fn one_of(o: Options, a: Opt, b: Opt) -> Result<(), Refusal> {
+    if !o.given(b) {
         return needs(o, a);
     }
     not_both(o, a, b)
 }
 
-fn against(option: Opt, why: usize) -> Refusal {
-    refusal::about(option, refusal::COMMAND_LINE, why)
-}
-
-fn numbers(rt: &impl Env, o: Options) -> Refusal {
-    let r = or(
-        number(rt, o, Opt::Class, 65535),
-        number(rt, o, Opt::Reader, 4294967295),
-    );
-    let s = or(
-        number(rt, o, Opt::Count, 18446744073709551615),
-        number(rt, o, Opt::Length, 18446744073709551615),
-    );
-    or(r, s)
-}
-
-fn number(rt: &impl Env, o: Options, option: Opt, most: u64) -> Refusal {
-    if !given(o, option) {
-        return refusal::none();
+// Refuses the command line for this option, if that applies: the tool's refusals are another type than the libraries'.
+fn refuse(applies: bool, option: Opt, why: Why) -> Result<(), Refusal> {
+    if applies {
+        return Err(refusal::about(option, What::CommandLine, Some(why)));
     }
-    let d = inputs::number(rt, o, option);
-    if d.good && d.value <= most {
-        return refusal::none();
-    }
-    against(option, refusal::NO_NUMBER)
+    Ok(())
 }
 
-// Standard input is read for one input only. The rows before --out are those of inputs.
-fn standard_input(rt: &impl Env, command: Command, o: Options) -> Refusal {
+fn numbers(rt: &impl Env, o: Options) -> Result<(), Refusal> {
+    number(rt, o, Opt::Class, u64::from(u16::MAX))?;
+    number(rt, o, Opt::Reader, u64::from(u32::MAX))?;
+    number(rt, o, Opt::Count, u64::MAX)?;
+    number(rt, o, Opt::Length, u64::MAX)
+}
+
+fn number(rt: &impl Env, o: Options, option: Opt, most: u64) -> Result<(), Refusal> {
+    if !o.given(option) {
+        return Ok(());
+    }
+    let bad = inputs::number(rt, o, option).is_none_or(|n| most < n);
+    refuse(bad, option, Why::NoNumber)
+}
+
+// Standard input is read for one input only.
+fn standard_input(rt: &impl Env, command: Command, o: Options) -> Result<(), Refusal> {
     let mut taken = reads_standard(command, o);
-    let end = options::place(Opt::Out);
-    let mut row = 0;
-    while row < end {
-        if options::is_dash(rt, o, options::at(row)) {
-            if taken {
-                return against(options::at(row), refusal::STANDARD_INPUT_TAKEN);
-            }
+    for option in INPUTS {
+        if o.is_dash(rt, option) {
+            refuse(taken, option, Why::StandardInputTaken)?;
             taken = true;
         }
-        row += 1;
     }
-    refusal::none()
+    Ok(())
 }
 
-// Whether standard input is read because no --in names a file.
+// Whether standard input is read because no --in names a file. show --drawer reads the drawer alone.
 fn reads_standard(command: Command, o: Options) -> bool {
-    options::taken(command, options::place(Opt::In)) != b'.'
-        && !given(o, Opt::In)
-        && !given_to_show(command, o)
-}
-
-// show --drawer reads the drawer alone.
-fn given_to_show(command: Command, o: Options) -> bool {
-    match command {
-        Command::Show => given(o, Opt::Drawer),
-        _ => false,
-    }
+    let shows_drawer = command == Command::Show && o.given(Opt::Drawer);
+    Opt::In.is_taken(command) && !o.given(Opt::In) && !shows_drawer
 }
 
 // Whether a file is named for the output.
 fn has_file(rt: &impl Env, o: Options) -> bool {
-    given(o, Opt::Out) && !options::is_dash(rt, o, Opt::Out)
+    o.given(Opt::Out) && !o.is_dash(rt, Opt::Out)
 }
 
 // The output goes neither to the drawer nor to the file beside it, under whatever name.
-fn not_in_drawer<R: Env + Files>(rt: &R, o: Options) -> Refusal {
-    if !given(o, Opt::Drawer) || !has_file(rt, o) {
-        return refusal::none();
+fn not_in_drawer<R: Env + Files>(rt: &R, o: Options) -> Result<(), Refusal> {
+    if !o.given(Opt::Drawer) || !has_file(rt, o) {
+        return Ok(());
     }
-    let out = options::word_of(rt, o, Opt::Out);
-    let drawer = options::word_of(rt, o, Opt::Drawer);
-    if names::same_place(rt, out, drawer) || names::same_place(rt, out, drawers::beside(rt, o)) {
-        return against(Opt::Out, refusal::DRAWERS_OWN);
-    }
-    refusal::none()
+    let out = o.word_of(rt, Opt::Out);
+    let drawer = o.word_of(rt, Opt::Drawer);
+    let own = names::same_place(rt, out, drawer)
+        || names::same_place(rt, out, drawers::beside(rt, o));
+    refuse(own, Opt::Out, Why::DrawersOwn)
 }
 
 // Nor does it replace a file that is read, but for that of --in.
-fn not_over_input<R: Env + Files>(rt: &R, o: Options) -> Refusal {
-    if given(o, Opt::Force)
+fn not_over_input<R: Env + Files>(rt: &R, o: Options) -> Result<(), Refusal> {
+    let over = o.given(Opt::Force)
         && has_file(rt, o)
-        && outputs::is_read(rt, o, options::word_of(rt, o, Opt::Out))
-    {
-        return against(Opt::Out, refusal::IS_INPUT);
-    }
-    refusal::none()
+        && outputs::is_read(rt, o, o.word_of(rt, Opt::Out));
+    refuse(over, Opt::Out, Why::IsInput)
 }
 
 // Nor to a terminal, unless - asks for it: that would show what is sealed as noise, and keys to whoever looks on.
-fn not_to_terminal(out: &impl IsTerminal, command: Command, o: Options) -> Refusal {
-    if given(o, Opt::Out) || !is_for_machines(command) || !out.is_terminal() {
-        return refusal::none();
+fn not_to_terminal(out: &impl IsTerminal, command: Command, o: Options) -> Result<(), Refusal> {
+    if o.given(Opt::Out) || !is_for_machines(command) || !out.is_terminal() {
+        return Ok(());
     }
-    refusal::about(Opt::Out, refusal::NOT_WRITTEN, refusal::TERMINAL)
+    Err(refusal::about(Opt::Out, What::NotWritten, Some(Why::Terminal)))
 }
 
 // Whether nobody could read what the command writes. A wide file that was changed gives noise.
 fn is_for_machines(command: Command) -> bool {
-    match command {
-        Command::Seal => true,
-        Command::Encipher => true,
-        Command::Decipher => true,
-        Command::Book => true,
-        _ => false,
-    }
+    matches!(
+        command,
+        Command::Seal | Command::Encipher | Command::Decipher | Command::Book
+    )
 }

@@ -1,93 +1,68 @@
 // show: what a drawer holds, and the parts of a card, without a key.
+use crate::files::Kind;
 use crate::options::{Opt, Options};
-use crate::refusal::Refusal;
+use crate::refusal::{Refusal, What};
 use crate::system::System;
 use crate::text::Text;
-use crate::{drawers, inputs, names, options, outputs, refusal, rooms, text};
+use crate::{drawers, files, inputs, limits, names, outputs, refusal, text};
 use drawer::Drawer;
 use std::io::Print;
-use words::first;
 
-pub(crate) fn show(rt: &impl System, o: Options) -> Refusal {
-    if options::given(o, Opt::Drawer) {
-        return show_drawer(rt, options::word_of(rt, o, Opt::Drawer));
+pub(crate) fn show(rt: &impl System, o: Options) -> Result<(), Refusal> {
+    if o.given(Opt::Drawer) {
+        return show_drawer(rt, o.word_of(rt, Opt::Drawer));
     }
-    let mut card = rooms::card();
-    let c = inputs::read(rt, refusal::none(), o, Opt::In, &mut card);
-    show_card(rt, c.refusal, first(&card, c.len))
+    let card = inputs::read(rt, o, Opt::In, limits::CARD)?;
+    show_card(rt, &card)
 }
 
 // Only a regular file is opened: to open a pipe could take forever.
-fn show_drawer(rt: &impl System, name: Text) -> Refusal {
-    let s = names::status(rt, name, true);
-    let kind = outputs::kind_of(s);
-    if s.good && kind == refusal::A_DIRECTORY {
-        return refusal::about(Opt::Drawer, refusal::NOT_READ, kind);
+fn show_drawer(rt: &impl System, name: Text) -> Result<(), Refusal> {
+    if let Ok(s) = files::led_to(rt, name, true) {
+        openable(s.kind)?;
     }
-    if s.good && kind != refusal::NO_REASON {
-        return refusal::about(Opt::Drawer, refusal::DAMAGED, kind);
+    let mut file = names::open_read(rt, name).map_err(|e| inputs::not_read(Opt::Drawer, e))?;
+    let drawer = drawers::kept_in(&mut file).ok_or(drawers::damaged(None))?;
+    outputs::said(rt, of_drawer(drawer))
+}
+
+fn openable(kind: Kind) -> Result<(), Refusal> {
+    match kind {
+        Kind::Regular => Ok(()),
+        Kind::Directory => Err(refusal::about(Opt::Drawer, What::NotRead, kind.kept())),
+        _ => Err(drawers::damaged(kind.kept())),
     }
-    let mut file = match names::open_read(rt, name) {
-        Ok(file) => file,
-        Err(e) => return refusal::by_system(Opt::Drawer, refusal::NOT_READ, e),
-    };
-    let k = drawers::kept_in(&mut file);
-    if k.number == 0 {
-        return outputs::said(rt, of_drawer(k.drawer));
-    }
-    refusal::about(Opt::Drawer, refusal::DAMAGED, refusal::NO_REASON)
 }
 
 fn of_drawer(d: Drawer) -> Text {
-    let left = 18446744073709551615 - d.count;
-    text::and_text(
-        drawn_from(d.reader as u64, d.count),
-        text::number(b"left ", left, b"\n"),
-    )
-}
-
-// Which reader and which count a number is drawn from.
-fn drawn_from(reader: u64, count: u64) -> Text {
-    text::and_text(
-        text::number(b"reader ", reader, b"\n"),
-        text::number(b"count ", count, b"\n"),
-    )
+    let (reader, count, left) = (d.reader, d.count, drawer::remaining(d));
+    text::formatted(format_args!("reader {reader}\ncount {count}\nleft {left}\n"))
 }
 
 // A card is as long as it says: 30 bytes and its text.
-fn show_card(rt: &impl Print, before: Refusal, card: &[u8]) -> Refusal {
-    if before.number != 0 {
-        return before;
-    }
-    let n = words::two(card, 12) as usize;
+fn show_card(rt: &impl Print, card: &[u8]) -> Result<(), Refusal> {
+    let n = usize::from(words::two(card, 12));
     if card.len() < 30 + n {
-        return refusal::about(Opt::In, 12, refusal::NO_REASON);
+        return Err(of_card(answers::Refusal::CutShort));
     }
     if card.len() > 30 + n {
-        return refusal::about(Opt::In, 15, refusal::NO_REASON);
+        return Err(of_card(answers::Refusal::LeftOver));
     }
-    let r = outputs::said(rt, front(card));
-    let s = refusal::or(r, ciphertext_said(rt, r, text::part(card, 14, 14 + n)));
-    refusal::or(s, tag_said(rt, s, text::part(card, 14 + n, card.len())))
-}
-
-fn front(card: &[u8]) -> Text {
-    let nonce = text::hex(b"nonce ", first(card, 12));
-    let drawn = drawn_from(words::load(card, 0, 4).lo, words::load(card, 4, 8).lo);
-    let length = text::number(b"length ", words::two(card, 12) as u64, b"\nciphertext ");
-    text::and_text(text::and_text(nonce, drawn), length)
-}
-
-fn ciphertext_said(rt: &impl Print, before: Refusal, ciphertext: &[u8]) -> Refusal {
-    if before.number != 0 {
-        return before;
-    }
-    outputs::printed(outputs::sent_in_hex(&mut std::io::writer(rt), ciphertext))
-}
-
-fn tag_said(rt: &impl Print, before: Refusal, tag: &[u8]) -> Refusal {
-    if before.number != 0 {
-        return before;
-    }
+    let (ciphertext, tag) = card[14..].split_at(n);
+    outputs::said(rt, front(card))?;
+    outputs::printed(outputs::sent_in_hex(&mut std::io::writer(rt), ciphertext))?;
     outputs::said(rt, text::hex(b"tag ", tag))
+}
+
+fn of_card(why: answers::Refusal) -> Refusal {
+    refusal::about(Opt::In, What::Library(why), None)
+}
+
+// The nonce, which reader and count it was drawn from, and how long the ciphertext is, which comes next.
+fn front(card: &[u8]) -> Text {
+    let reader = words::load(card, 0, 4).lo;
+    let count = words::load(card, 4, 8).lo;
+    let length = words::two(card, 12);
+    let rest = format_args!("reader {reader}\ncount {count}\nlength {length}\nciphertext ");
+    text::hex(b"nonce ", card.get(..12).unwrap_or(card)).and(text::formatted(rest).as_bytes())
 }

@@ -1,150 +1,124 @@
-// Texts by value, as the name of a file or the last line: put together in a few steps, and lent once.
-use crate::{first_mut, put};
-use words::{first, same};
+// Texts by value, as the name of a file or the last line: put together in a few steps, and lent once. A String could
+// lack memory, a refusal that no document has; and words of the command line, which are put in, need not be UTF-8.
+ghost use Rattle.std.specs.Prelude.{◌≤◌};
+
+use std::fmt;
+use std::fmt::{Display, Write};
+
+const ROOM: usize = 8192;
 
 // The first len bytes count.
 #[derive(Clone, Copy)]
 pub(crate) struct Text {
-    pub bytes: [u8; 8192],
-    pub len: usize,
+    bytes: [u8; ROOM],
+    len: usize,
+    ghost fits: { len ≤ 8192 },
 }
 
 pub(crate) fn of(s: &[u8]) -> Text {
-    and(
-        Text {
-            bytes: [0; 8192],
-            len: 0,
-        },
-        s,
-    )
+    let mut t = Text::new();
+    t.push(s);
+    t
 }
 
-// The text with s behind it, as far as that fits.
-pub(crate) fn and(t: Text, s: &[u8]) -> Text {
-    let mut bytes = t.bytes;
-    let len = put(&mut bytes, t.len, s);
-    Text {
-        bytes: bytes,
-        len: len,
-    }
-}
-
-pub(crate) fn and_text(t: Text, u: Text) -> Text {
-    and(t, first(&u.bytes, u.len))
-}
-
-// A number between two words.
-pub(crate) fn number(before: &[u8], n: u64, after: &[u8]) -> Text {
-    let mut digits = [0u8; 20];
-    let k = io::decimal(n, &mut digits);
-    and(and(of(before), &digits[..k]), after)
+// What `format_args!` gives, as text.
+pub(crate) fn formatted(args: impl Display + Drop) -> Text {
+    let mut t = Text::new();
+    let _ = write!(t, "{args}");
+    t
 }
 
 // Up to 16 bytes in hex behind a word, and the end of the line.
 pub(crate) fn hex(before: &[u8], s: &[u8]) -> Text {
-    let mut digits = [0u8; 32];
-    hexadecimal::spell(first(s, 16), &mut digits);
-    let twice = if s.len() < 16 { 2 * s.len() } else { 32 };
-    and(and(of(before), first(&digits, twice)), b"\n")
-}
-
-// Filled with blanks to this length.
-pub(crate) fn to(t: Text, len: usize) -> Text {
-    let blanks = *b"                                ";
-    if t.len < len {
-        return and(t, first(&blanks, len - t.len));
+    let mut t = of(before);
+    for b in s.iter().take(16) {
+        let _ = write!(t, "{b:02x}");
     }
-    t
+    t.and(b"\n")
 }
 
-// Whether the text is this word.
-pub(crate) fn is(t: Text, word: &[u8]) -> bool {
-    same(first(&t.bytes, t.len), word)
-}
-
-pub(crate) fn is_text(t: Text, u: Text) -> bool {
-    is(t, first(&u.bytes, u.len))
-}
-
-// Whether a name in a table is this word.
-pub(crate) fn is_name(name: &[u8; 9], word: &[u8]) -> bool {
-    same(without_blanks(name), word)
-}
-
-// A name in a table, without the blanks that fill it.
-pub(crate) fn of_name(name: &[u8; 9]) -> Text {
-    of(without_blanks(name))
-}
-
-fn without_blanks(s: &[u8]) -> &[u8] {
-    first(s, filled(s))
-}
-
-// Where the blanks at the end begin.
-fn filled(s: &[u8]) -> usize {
-    let mut n = s.len();
-    while n > 0 {
-        if s[n - 1] != b' ' {
-            return n;
+impl Text {
+    pub(crate) fn new() -> Text {
+        Text {
+            bytes: [0; ROOM],
+            len: 0,
         }
-        n -= 1;
     }
-    0
+
+    pub(crate) fn as_bytes(&self) -> &[u8] {
+        &self.bytes[..self.len]
+    }
+
+    pub(crate) fn is_empty(&self) -> bool {
+        self.len == 0
+    }
+
+    // Puts s behind the text, as far as that fits.
+    pub(crate) fn push(&mut self, s: &[u8]) {
+        let more = s.len().min(ROOM - self.len);
+        self.bytes[self.len..self.len + more].copy_from_slice(&s[..more]);
+        self.len += more;
+    }
+
+    // The text with s behind it.
+    pub(crate) fn and(self, s: &[u8]) -> Text {
+        let mut t = self;
+        t.push(s);
+        t
+    }
+
+    // Filled with blanks to this length.
+    pub(crate) fn padded(self, len: usize) -> Text {
+        let mut t = self;
+        for _ in self.len..len {
+            t.push(b" ");
+        }
+        t
+    }
+
+    // The text without its control characters, so that it cannot look like a line of its own or steer a terminal.
+    pub(crate) fn shown(self) -> Text {
+        let bytes = self.as_bytes();
+        let mut t = Text::new();
+        let mut inside = 0;
+        for (i, &b) in bytes.iter().enumerate() {
+            let next = bytes.get(i + 1).copied().unwrap_or(0);
+            t.push(&[if is_control(b, next, inside) { b'?' } else { b }]);
+            inside = still_inside(b, inside);
+        }
+        t
+    }
 }
 
-// The part of s between two places, nothing where there is none.
-pub(crate) fn part(s: &[u8], from: usize, to: usize) -> &[u8] {
-    if from <= to && to <= s.len() {
-        return &s[from..to];
-    }
-    &s[..0]
-}
-
-// The text without its control characters, so that it cannot look like a line of its own or steer a terminal.
-pub(crate) fn shown(t: Text) -> Text {
-    let mut bytes = t.bytes;
-    cover(first_mut(&mut bytes, t.len));
-    Text {
-        bytes: bytes,
-        len: t.len,
-    }
-}
-
-fn cover(s: &mut [u8]) {
-    let mut inside: u8 = 0;
-    let mut i = 0;
-    while i < s.len() {
-        let b = s[i];
-        let next = if i + 1 < s.len() { s[i + 1] } else { 0 };
-        s[i] = if is_control(b, next, inside) { b'?' } else { b };
-        inside = still_inside(b, inside);
-        i += 1;
+// What does not fit is left out, here too.
+impl Write for Text {
+    fn write_str(&mut self, s: &str) -> fmt::Result {
+        self.push(s.as_bytes());
+        Ok(())
     }
 }
 
 // Those of ASCII, and U+0080 to U+009F, be it as one byte or as the two of UTF-8, of which the first is C2. Inside a
 // longer letter of UTF-8 such a byte is a part of it.
 fn is_control(b: u8, next: u8, inside: u8) -> bool {
-    if b == 0xc2 {
-        return is_upper_control(next);
+    match b {
+        0xc2 => is_upper_control(next),
+        0x80..0xa0 => inside == 0,
+        _ => b.is_ascii_control(),
     }
-    b < 32 || b == 127 || (inside == 0 && is_upper_control(b))
 }
 
 fn is_upper_control(b: u8) -> bool {
-    0x80 <= b && b < 0xa0
+    (0x80..0xa0).contains(&b)
 }
 
 // How many bytes of a letter of UTF-8 are still to come behind this one.
 fn still_inside(b: u8, inside: u8) -> u8 {
-    if 0x80 <= b && b < 0xc0 {
-        return if inside > 0 { inside - 1 } else { 0 };
+    match b {
+        0x80..0xc0 => inside.saturating_sub(1),
+        0xc3..0xe0 => 1,
+        0xe0..0xf0 => 2,
+        0xf0..0xf8 => 3,
+        _ => 0,
     }
-    if b < 0xc3 || 0xf8 <= b {
-        return 0;
-    }
-    if b < 0xe0 {
-        return 1;
-    }
-    if b < 0xf0 { 2 } else { 3 }
 }

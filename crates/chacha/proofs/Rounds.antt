@@ -1,21 +1,40 @@
 -- The rounds and the block, of what the code's calls ensure.
-use Rattle.std.proofs.Common.{◌≡◌, ℕ, ◌*◌, ◌<◌, ◌≤◌, List, length, get_or, drop, set, replicate, refl, ap, ◌∙◌, arith}
-use Rattle.std.proofs.Common.{take_all}
-use lib.Bits.{bit_xor}
+use Rattle.std.proofs.Common.{◌≡◌, ℕ, ◌-◌, ◌*◌, ◌/◌, ◌%◌, ◌^◌, ◌<◌, ◌≤◌, List, length, get_or}
+use Rattle.std.proofs.Common.{drop, set, replicate, refl, sym, ap, ◌∙◌, arith}
+use Rattle.std.proofs.Common.{take_all, mod-lt}
+use Rattle.std.proofs.lemmas.Nat.{or_comm, xor_lt}
+use lib.Bits.{bit_or, bit_xor}
 use lib.Seq.{sets}
 use Rattle.words.specs.Digits.{sum_mod, rotl, tab}
 use Rattle.words.specs.Words.{words, unwords}
+use Rattle.std.specs.Int.{w32, rotate_left}
+use Rattle.words.proofs.Rotation.{rotr-or}
 use Rattle.words.proofs.Lists.{tab-at, length-tab, sets-whole}
 use Rattle.words.proofs.WordLists.{length-unwords, words-first}
-use Rattle.chacha.specs.declared.Quad.{Quad}
 use Rattle.chacha.specs.ChaCha.{quarter, rounds, start_state, sums, block_from}
 
-pub quarter-is : (a b c d a₁ d₁ c₁ b₁ a₂ d₂ c₂ b₂ : ℕ)
-    → a₁ ≡ sum_mod 32 a b → d₁ ≡ rotl 32 16 (bit_xor d a₁) → c₁ ≡ sum_mod 32 c d₁ → b₁ ≡ rotl 32 12 (bit_xor b c₁)
-    → a₂ ≡ sum_mod 32 a₁ b₁ → d₂ ≡ rotl 32 8 (bit_xor d₁ a₂) → c₂ ≡ sum_mod 32 c₁ d₂ → b₂ ≡ rotl 32 7 (bit_xor b₁ c₂)
-    → ◌≡◌ {A = Quad} (record { a = a₂; b = b₂; c = c₂; d = d₂ }) (quarter a b c d)
+-- the library's rotation is the definition's
+rotl-is : (n x : ℕ) → 0 < n → n < 32 → x < 2 ^ 32 → rotate_left w32 x n ≡ rotl 32 n x
+rotl-is n x h0 h hx =
+    let en : n % 32 ≡ n = omega arith in
+    let em : (32 - n) % 32 ≡ 32 - n = omega arith in
+    let ed : 32 - (32 - n) ≡ n = omega arith in
+    let or : bit_or (x / 2 ^ (32 - n)) (x * 2 ^ n % 2 ^ 32) ≡ rotl 32 n x =
+    ap (λ (k : ℕ). bit_or (x / 2 ^ (32 - n)) (x * 2 ^ k % 2 ^ 32)) (sym ed) ∙ rotr-or 32 (32 - n) x (omega arith) hx in
+    rw (en, em) (or_comm (x * 2 ^ n % 2 ^ 32) (x / 2 ^ (32 - n)) ∙ or)
+
+pub quarter-is : (a b c d d₁ b₁ d₂ b₂ : ℕ) → b < 2 ^ 32 → d < 2 ^ 32 → b₁ < 2 ^ 32 → d₁ < 2 ^ 32
+    → let a₁ = sum_mod 32 a b in let c₁ = sum_mod 32 c d₁ in
+    let a₂ = sum_mod 32 a₁ b₁ in let c₂ = sum_mod 32 c₁ d₂ in
+    d₁ ≡ rotate_left w32 (bit_xor d a₁) 16 → b₁ ≡ rotate_left w32 (bit_xor b c₁) 12
+    → d₂ ≡ rotate_left w32 (bit_xor d₁ a₂) 8 → b₂ ≡ rotate_left w32 (bit_xor b₁ c₂) 7
+    → (a₂, b₂, c₂, d₂) ≡ quarter a b c d
 unfolding quarter
-quarter-is a b c d a₁ d₁ c₁ b₁ a₂ d₂ c₂ b₂ e1 e2 e3 e4 e5 e6 e7 e8 = rw (e8, e7, e6, e5, e4, e3, e2, e1)
+quarter-is a b c d d₁ b₁ d₂ b₂ hb hd hb₁ hd₁ e1 e2 e3 e4 =
+    rw (e4 ∙ rotl-is 7 _ (omega arith) (omega arith) (xor_lt 32 _ _ hb₁ (mod-lt _ (omega arith))))
+    (rw (e3 ∙ rotl-is 8 _ (omega arith) (omega arith) (xor_lt 32 _ _ hd₁ (mod-lt _ (omega arith))))
+    (rw (e2 ∙ rotl-is 12 _ (omega arith) (omega arith) (xor_lt 32 _ _ hb (mod-lt _ (omega arith))))
+    (rw (e1 ∙ rotl-is 16 _ (omega arith) (omega arith) (xor_lt 32 _ _ hd (mod-lt _ (omega arith)))) refl)))
 
 -- the start differs in the counter alone
 pub start-set : (key nonce : List ℕ) (c₀ c : ℕ) → set (start_state key nonce c₀) 12 c ≡ start_state key nonce c

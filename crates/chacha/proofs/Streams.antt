@@ -1,6 +1,8 @@
 -- The key stream: one block on, adding it twice, and cutting it after whole blocks.
-use Rattle.std.proofs.Common.{◌≡◌, ℕ, zero, suc, ◌+◌, ◌*◌, List, ◌++◌, length, sym, refl, ap, ◌∙◌, append_assoc}
-use Rattle.std.proofs.Common.{add-zero, add-suc, suc-add, zero-add, add-one, arith, length-append, take_all}
+use Rattle.std.proofs.Common.{◌≡◌, ℕ, zero, suc, ◌+◌, ◌-◌, ◌*◌, ◌<◌, List, ◌++◌, length, sym}
+use Rattle.std.proofs.Common.{refl, ap, ◌∙◌, append_assoc}
+use Rattle.std.proofs.Common.{add-zero, add-suc, suc-add, zero-add, arith, length-append, take_all}
+use Rattle.std.proofs.Math.Nat.{sub-zero}
 use Rattle.words.specs.Block.{part}
 use Rattle.words.specs.Bytes.{plus, plus_at}
 use Rattle.words.proofs.Plus.{length-plus, plus-twice, plus-append, plus_at-first, plus_at-none, plus_at-append}
@@ -9,25 +11,28 @@ use Rattle.chacha.proofs.Rounds.{length-block}
 
 -- ---- the loop
 
-pub stream-first : (key nonce text : List ℕ) (counter n : ℕ) → n ≡ blocks (length text)
-    → plus_at 0 text (key_stream key nonce counter n) ≡ stream key nonce counter text
+pub stream-first : (key nonce text : List ℕ) (c n : ℕ) → n ≡ blocks (length text)
+    → plus_at 0 text (key_stream key nonce (c + 0) (n - 0)) ≡ stream key nonce c text
 unfolding stream
-stream-first key nonce text counter n e =
-    plus_at-first text (key_stream key nonce counter n) ∙ ap (λ (m : ℕ). plus text (key_stream key nonce counter m)) e
+stream-first key nonce text c n e =
+    rw (add-zero, sub-zero)
+    (plus_at-first text (key_stream key nonce c n) ∙ ap (λ (m : ℕ). plus text (key_stream key nonce c m)) e)
 
-pub stream-next : (key nonce text text' k l : List ℕ) (c i m n : ℕ) → k ≡ block key nonce c
-    → text' ≡ plus_at i text (part k 0 64) → m ≡ suc n
-    → plus_at i text (key_stream key nonce c m) ≡ l → plus_at (i + 64) text' (key_stream key nonce (c + 1) n) ≡ l
+-- block i of n is added, the counter c at the start
+pub stream-next : (key nonce text text' k l : List ℕ) (c i n : ℕ) → i < n → k ≡ block key nonce (c + i)
+    → text' ≡ plus_at (64 * i) text (part k 0 64)
+    → plus_at (64 * i) text (key_stream key nonce (c + i) (n - i)) ≡ l
+    → plus_at (64 * (i + 1)) text' (key_stream key nonce (c + (i + 1)) (n - (i + 1))) ≡ l
 unfolding key_stream
-stream-next key nonce text text' k l c i m n ek et em e =
-    let b = block key nonce c in
-    let lb : length b ≡ 64 = length-block (start_state key nonce c) in
+stream-next key nonce text text' k l c i n h ek et e =
+    let b = block key nonce (c + i) in
+    let m = n - (i + 1) in
+    let lb : length b ≡ 64 = length-block (start_state key nonce (c + i)) in
     let eb : part k 0 64 ≡ b = ap (λ (x : List ℕ). part x 0 64) ek ∙ take_all 64 b (omega arith) in
-    let next : plus_at (i + 64) (plus_at i text b) (key_stream key nonce (suc c) n)
-    ≡ plus_at i text (b ++ key_stream key nonce (suc c) n) =
-    ap (λ (x : ℕ). plus_at (i + x) (plus_at i text b) (key_stream key nonce (suc c) n)) (sym lb)
-    ∙ plus_at-append i text b (key_stream key nonce (suc c) n) in
-    rw (et, eb, add-one) (next ∙ rw em at e)
+    let ei : 64 * (i + 1) ≡ 64 * i + length b = omega (arith, lb) in
+    let ec : c + (i + 1) ≡ suc (c + i) = omega arith in
+    let em : n - i ≡ suc m = omega arith in
+    rw (ei, ec, et, eb) (plus_at-append (64 * i) text b (key_stream key nonce (suc (c + i)) m) ∙ rw em at e)
 
 pub stream_end : (key nonce text l : List ℕ) (c i n : ℕ) → n ≡ 0 → plus_at i text (key_stream key nonce c n) ≡ l
     → text ≡ l

@@ -1,6 +1,6 @@
 -- Numbers in decimal.
-use Rattle.std.specs.Prelude.{ℕ, ◌+◌, ◌-◌, ◌*◌, ◌^◌, Bool, true, false, cond, ◌&&◌, List, [], ◌∷◌, ltb, length}
-use Rattle.decimal.specs.declared.Decimal.{Decimal}
+use Rattle.std.specs.Prelude.{ℕ, ◌+◌, ◌-◌, ◌*◌, ◌^◌, Bool, true, cond, ◌&&◌, List, [], ◌∷◌, ltb, length}
+use Rattle.std.specs.Prelude.{Option, Some, None}
 
 unfoldable pub digits : List ℕ → Bool
 digits [] = true
@@ -11,15 +11,15 @@ unfoldable pub behind : ℕ → List ℕ → ℕ
 behind v [] = v
 behind v (b ∷ s) = behind (v * 10 + (b - 48)) s
 
-abbrev pub none : Decimal
-none = record { good = false; value = 0 }
-
 -- d with the word s behind it: a number, where d was one, s is digits and it is below 2^64
-unfoldable pub from : Decimal → List ℕ → Decimal
-from d s =
-    cond (d.good && digits s && ltb (behind d.value s) (2 ^ 64))
-    (record { good = true; value = behind d.value s }) none
+unfoldable pub from : Option ℕ → List ℕ → Option ℕ
+from None s = None
+from (Some v) s = cond (digits s && ltb (behind v s) (2 ^ 64)) (Some (behind v s)) None
 
 -- a number is one digit or more
-unfoldable pub reading : List ℕ → Decimal
-reading word = from (record { good = ltb 0 (length word); value = 0 }) word
+unfoldable pub reading : List ℕ → Option ℕ
+reading word = from (cond (ltb 0 (length word)) (Some 0) None) word
+
+-- the value of a digit
+unfoldable pub digit : ℕ → Option ℕ
+digit b = cond (ltb 47 b && ltb b 58) (Some (b - 48)) None

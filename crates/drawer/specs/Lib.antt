@@ -1,2 +1,3 @@
 pub mod Drawer
+pub mod Drawn
 pub mod Sequence

@@ -12,3 +12,6 @@ store-unique d = same
 
 pub load-unique : (s : List ℕ) {m n : ℕ} {a b : Drawer} → Loading m s a → Loading n s b → (m ≡ n) × (a ≡ b)
 load-unique s = same_answer
+
+pub number-unique : {m n : ℕ} → m ≡ 106 → n ≡ 106 → m ≡ n
+number-unique = same

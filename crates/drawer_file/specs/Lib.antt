@@ -1,1 +1,2 @@
 pub mod DrawerFile
+pub mod Loaded

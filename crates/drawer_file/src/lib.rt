@@ -3,55 +3,49 @@
 
 ghost use Rattle.std.specs.Prelude.{◌≡◌};
 ghost use Rattle.drawer_file.specs.DrawerFile.{storing, Loading};
+ghost use Rattle.drawer_file.specs.Loaded.{told, drawer_of};
 
 use drawer::Drawer;
 
-// The bytes of a drawer file.
-#[repr(C)]
-#[derive(Drop)]
-pub struct Stored {
-    pub bytes: [u8; 44],
+// A file that `store` does not write.
+#[derive(Clone, Copy, Debug, PartialEq, Eq)]
+pub struct Damaged;
+
+impl Damaged {
+    // Its number, as C has it: one of our own, which is no document's.
+    pub fn number(self) -> u32
+        ensures { result ≡ 106 }
+    {
+        106
+    }
 }
 
-// What reading a drawer file answers: 0 or the refusal, and the drawer.
-#[repr(C)]
-#[derive(Drop)]
-pub struct Loaded {
-    pub number: u32,
-    pub drawer: Drawer,
-}
+// The bytes of a drawer file.
+pub type Stored = [u8; 44];
 
 // The drawer file of d: the nonce that d draws next, and the 32-byte BLAKE2b digest of that under no key.
 pub fn store(d: Drawer) -> Stored
-    ensures { result.bytes ≡ storing d }
+    ensures { result ≡ storing d }
 {
-    let mut file = [0u8; 44];
     let nonce = drawer::next_nonce(d);
-    let mut check = [0u8; 32];
-    blake::digest(b"", &nonce, &mut check);
-    words::add(&mut file, 0, &nonce, 0, 12);
-    words::add(&mut file, 12, &check, 0, 32);
-    Stored { bytes: file }
+    let mut file = [0u8; 44]; // an array: its length is fixed, and the archive has no heap
+    file[..12].copy_from_slice(&nonce);
+    // None of these lengths is refused, which is proved: nothing is left to test when it runs.
+    blake::digest(b"", &nonce, &mut file[12..]).unwrap();
+    file
 }
 
-// The drawer that bytes were stored of, if they are, to the byte, what `store` answers for it. If they are not, that is
-// refused, with reader 0 and nothing left to draw.
-pub fn load(bytes: &[u8]) -> Loaded
-    ensures { Loading result.number bytes.now result.drawer }
+// The drawer that bytes were stored of, if they are, to the byte, what `store` answers for it. What is not there reads
+// as 0: too few bytes are told by that comparison too.
+pub fn load(bytes: &[u8]) -> Result<Drawer, Damaged>
+    ensures { Loading (told result) bytes.now (drawer_of result) }
 {
     let reader = words::load(bytes, 0, 4);
     let count = words::load(bytes, 4, 8);
-    let d = drawer::start((reader.lo % 4294967296) as u32, count.lo);
-    let stored = store(d);
-    let file = stored.bytes;
-    if words::same(bytes, &file) {
-        return Loaded {
-            number: 0,
-            drawer: d,
-        };
-    }
-    Loaded {
-        number: 106,
-        drawer: drawer::start(0, 18446744073709551615),
+    let d = drawer::start(reader.lo as u32, count.lo); // `as`: four bytes are proved to fit
+    if words::same(bytes, &store(d)) {
+        Ok(d)
+    } else {
+        Err(Damaged)
     }
 }

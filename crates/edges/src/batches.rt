@@ -1,9 +1,7 @@
 // Seals batches. A line has the lengths of key, associated data, texts, room and tags, the drawer, how many lengths are
 // listed and each of them, and then the number answered, the next drawer, and the bytes of room and tags.
-ghost use Rattle.std.specs.Prelude.{◌≤◌};
-
 use super::draws::put_drawer;
-use super::{STDOUT_FILENO, fill, first_mut, put_bytes, put_number};
+use super::{STDOUT_FILENO, fill, first_mut, put_answer, put_bytes, put_number, put_numbers};
 use words::first;
 
 pub(crate) fn batches() {
@@ -17,23 +15,24 @@ pub(crate) fn batches() {
 
 // So many cards, the second one empty.
 fn counts() {
-    draws(0, 0);
-    draws(1, 16);
-    draws(2, 16);
-    draws(12, 46);
-    draws(13, 63);
+    for (n, texts) in [(0, 0), (1, 16), (2, 16), (12, 46), (13, 63)] {
+        draws(n, texts);
+    }
 }
 
 // With none, one, 11, 12, 13 draws left, or all.
-fn draws(n: usize, texts: usize)
-    requires { n ≤ 13 }
-{
-    listed(n, 16, 0, 3, 17, 0xffffffffffffffff, texts, 16 * n);
-    listed(n, 16, 0, 3, 17, 0xfffffffffffffffe, texts, 16 * n);
-    listed(n, 16, 0, 3, 17, 0xfffffffffffffff4, texts, 16 * n);
-    listed(n, 16, 0, 3, 17, 0xfffffffffffffff3, texts, 16 * n);
-    listed(n, 16, 0, 3, 17, 0xfffffffffffffff2, texts, 16 * n);
-    listed(n, 16, 0, 3, 17, 0, texts, 16 * n);
+fn draws(n: u8, texts: usize) {
+    for count in [
+        0xffffffffffffffff,
+        0xfffffffffffffffe,
+        0xfffffffffffffff4,
+        0xfffffffffffffff3,
+        0xfffffffffffffff2,
+        0,
+    ] {
+        let n = usize::from(n);
+        listed(n, 16, 0, 3, 17, count, texts, 16 * n);
+    }
 }
 
 // Each choice of refusals, of two cards.
@@ -48,16 +47,14 @@ fn refusals() {
 }
 
 fn choices(key: &[u8], data: &[u8], texts: &[u8]) {
-    let mut m: usize = 0;
-    while m < 128 {
+    for m in 0..128 {
         let k = first(key, 16 + m % 2);
         let a = first(data, 3 + 65534 * (m / 2 % 2));
         let long = 5 + 1048572 * (m / 4 % 2);
         let tags = 32 - m / 8 % 2;
         let room = 20 - 4 * (m / 16 % 2);
         let list = lengths_of(long as u64, 12 + m as u64 / 64, 0, 0);
-        batch(k, a, texts, firsts(&list, 2), few(m / 32 % 2), room, tags);
-        m += 1;
+        batch(k, a, texts, &list[..2], few(m / 32 % 2), room, tags);
     }
 }
 
@@ -114,9 +111,7 @@ fn thirteen_or_none() {
 }
 
 // n lengths, with room for five bytes more than there are of texts.
-fn listed(n: usize, a: u64, b: u64, c: u64, d: u64, count: u64, texts: usize, tags: usize)
-    requires { n ≤ 13 }
-{
+fn listed(n: usize, a: u64, b: u64, c: u64, d: u64, count: u64, texts: usize, tags: usize) {
     let mut key = [0u8; 16];
     fill(&mut key, 1);
     let mut data = [0u8; 3];
@@ -125,16 +120,8 @@ fn listed(n: usize, a: u64, b: u64, c: u64, d: u64, count: u64, texts: usize, ta
     fill(&mut text, 4);
     let list = lengths_of(a, b, c, d);
     let t = first(&text, texts);
-    batch(&key, &data, t, firsts(&list, n), count, t.len() + 5, tags);
-}
-
-// The first n lengths, or all.
-fn firsts(lengths: &[u64], n: usize) -> &[u64] {
-    if n < lengths.len() {
-        &lengths[..n]
-    } else {
-        lengths
-    }
+    let n = n.min(list.len());
+    batch(&key, &data, t, &list[..n], count, t.len() + 5, tags);
 }
 
 // Thirteen lengths: a, b, c up to the twelfth, and d.
@@ -154,11 +141,7 @@ fn batch(
     let mut r = [0xa5u8; 68];
     let mut t = [0x5au8; 208];
     io::write_all(STDOUT_FILENO, b"batch");
-    put_number(key.len() as u64);
-    put_number(data.len() as u64);
-    put_number(texts.len() as u64);
-    put_number(room as u64);
-    put_number(tags as u64);
+    put_numbers(&[key.len(), data.len(), texts.len(), room, tags]);
     seal(
         key,
         data,
@@ -183,18 +166,16 @@ fn seal(
     let d = drawer::start(0x01020304, count);
     put_drawer(d);
     put_lengths(lengths);
-    let b = batch::seal(key, data, texts, lengths, d, room, tags);
-    put_number(b.number as u64);
-    put_drawer(b.next);
+    let sealed = batch::seal(key, data, texts, lengths, d, room, tags);
+    put_answer(&sealed);
+    put_drawer(sealed.unwrap_or(d));
     put_bytes(room);
     put_bytes(tags);
 }
 
 fn put_lengths(lengths: &[u64]) {
     put_number(lengths.len() as u64);
-    let mut i = 0;
-    while i < lengths.len() {
-        put_number(lengths[i]);
-        i += 1;
+    for &n in lengths {
+        put_number(n);
     }
 }

@@ -3,7 +3,8 @@
 // sealing, number and room of opening. Rooms of more than 32 bytes are shown by their BLAKE2b digest of 16 bytes.
 ghost use Rattle.std.specs.Prelude.{◌≤◌};
 
-use super::{STDOUT_FILENO, fill, first_mut, put_bytes, put_number};
+use super::{STDOUT_FILENO, fill, first_mut, put_answer, put_bytes, put_number, put_numbers};
+use answers::Refusal;
 use words::first;
 
 pub(crate) fn cards() {
@@ -23,91 +24,80 @@ pub(crate) fn cards() {
 
 // Each length of associated data with each of text.
 fn all_lengths(key: &[u8], nonce: &[u8], data: &[u8], text: &[u8]) {
-    let mut i: usize = 0;
-    while i < 7 {
-        all_texts(first(key, 16), nonce, first(data, length(i, 65536)), text);
-        i += 1;
+    for n in lengths(65536) {
+        all_texts(first(key, 16), nonce, first(data, n), text);
     }
 }
 
 // The lengths at the edges: around a block, and around the long one.
-fn length(i: usize, long: usize) -> usize
+fn lengths(long: usize) -> [usize; 7]
     requires { long ≤ 65536 }
-    ensures { result ≤ 65537 }
 {
-    match i {
-        0 => 0,
-        1 => 1,
-        2 => 15,
-        3 => 16,
-        4 => 17,
-        5 => long,
-        _ => long + 1,
-    }
+    [0, 1, 15, 16, 17, long, long + 1]
 }
 
 // Opened with the tag, and with its lowest bit flipped.
 fn all_texts(key: &[u8], nonce: &[u8], data: &[u8], text: &[u8]) {
-    let mut i: usize = 0;
-    while i < 7 {
-        let n = length(i, 4096);
-        card(key, nonce, data, first(text, n), n + 5, 16, 128);
-        card(key, nonce, data, first(text, n), n + 5, 16, 0);
-        i += 1;
+    for n in lengths(4096) {
+        for bit in [None, Some(0)] {
+            card(
+                key,
+                nonce,
+                data,
+                first(text, n),
+                n.saturating_add(5),
+                16,
+                bit,
+            );
+        }
     }
 }
 
 // Each choice of wrong lengths; bit 5 says whether a wrong tag is too long.
 fn wrong_lengths(key: &[u8], nonce: &[u8], data: &[u8], text: &[u8]) {
-    let mut m: usize = 0;
-    while m < 64 {
+    for m in 0..64 {
         if m < 32 || m / 8 % 2 == 1 {
             let k = first(key, 16 + m % 2);
             let n = first(nonce, 12 - m / 2 % 2);
             let a = first(data, 1 + 65536 * (m / 4 % 2));
             let tag = 16 - m / 8 % 2 + 2 * (m / 32);
-            card(k, n, a, first(text, 17), 17 - m / 16 % 2, tag, 128);
+            card(k, n, a, first(text, 17), 17 - m / 16 % 2, tag, None);
         }
-        m += 1;
     }
 }
 
 // One card with each bit of its tag flipped.
 fn wrong_tags(key: &[u8], nonce: &[u8], data: &[u8], text: &[u8]) {
-    let mut bit: usize = 0;
-    while bit < 128 {
-        card(
-            first(key, 16),
-            nonce,
-            first(data, 3),
-            first(text, 5),
-            8,
-            16,
-            bit,
-        );
-        bit += 1;
+    let key = first(key, 16);
+    for bit in 0..128 {
+        card(key, nonce, first(data, 3), first(text, 5), 8, 16, Some(bit));
     }
 }
 
 fn short_forms(key: &[u8], nonce: &[u8], text: &[u8]) {
-    let mut i: usize = 0;
-    while i < 4 {
-        let n = 16 * (i / 2) + i % 2;
+    for n in [0, 1, 16, 17] {
         short_card(first(key, 16), nonce, first(text, n), n + 5);
-        i += 1;
     }
 }
 
-fn card(key: &[u8], nonce: &[u8], data: &[u8], text: &[u8], room: usize, tag: usize, bit: usize) {
-    put_lengths(
-        key.len(),
+fn card(
+    key: &[u8],
+    nonce: &[u8],
+    data: &[u8],
+    text: &[u8],
+    room: usize,
+    tag: usize,
+    bit: Option<usize>,
+) {
+    io::print_decimal(STDOUT_FILENO, key.len() as u64);
+    put_numbers(&[
         nonce.len(),
         data.len(),
         text.len(),
         room,
         tag,
-        bit,
-    );
+        bit.unwrap_or(128),
+    ]);
     let mut sealed = [0xa5u8; 4113];
     let mut t = [0x5au8; 17];
     let mut opened = [0xa5u8; 4113];
@@ -133,14 +123,14 @@ fn card(key: &[u8], nonce: &[u8], data: &[u8], text: &[u8], room: usize, tag: us
 }
 
 fn seal(key: &[u8], nonce: &[u8], data: &[u8], text: &[u8], room: &mut [u8], tag: &mut [u8]) {
-    let number = hyena::seal(key, nonce, data, text, room, tag);
-    put(number, room);
+    let answer = hyena::seal(key, nonce, data, text, room, tag);
+    put(&answer, room);
     put_bytes(tag);
 }
 
 fn open(key: &[u8], nonce: &[u8], data: &[u8], ciphertext: &[u8], tag: &[u8], room: &mut [u8]) {
-    let number = hyena::open(key, nonce, data, ciphertext, tag, room);
-    put(number, room);
+    let answer = hyena::open(key, nonce, data, ciphertext, tag, room);
+    put(&answer, room);
 }
 
 fn short_card(key: &[u8], nonce: &[u8], text: &[u8], room: usize) {
@@ -156,50 +146,36 @@ fn short_card(key: &[u8], nonce: &[u8], text: &[u8], room: usize) {
 }
 
 fn seal_short(key: &[u8], nonce: &[u8], text: &[u8], room: &mut [u8], tag: &mut [u8]) {
-    let number = hyena::seal_short(key, nonce, text, room, tag);
-    put(number, room);
+    let answer = hyena::seal_short(key, nonce, text, room, tag);
+    put(&answer, room);
     put_bytes(tag);
 }
 
 fn open_short(key: &[u8], nonce: &[u8], ciphertext: &[u8], tag: &[u8], room: &mut [u8]) {
-    let number = hyena::open_short(key, nonce, ciphertext, tag, room);
-    put(number, room);
+    let answer = hyena::open_short(key, nonce, ciphertext, tag, room);
+    put(&answer, room);
 }
 
-// The tag with a bit flipped.
-fn flip(tag: &mut [u8], bit: usize) {
-    let at = bit / 8;
-    if bit < 128 && at < tag.len() {
-        tag[at] = tag[at] ^ (1 << (bit % 8));
+// The tag with this bit flipped, if there is one.
+fn flip(tag: &mut [u8], flipped: Option<usize>) {
+    let Some(bit) = flipped else {
+        return;
+    };
+    if let Some(byte) = tag.get_mut(bit / 8) {
+        *byte ^= 1 << (bit % 8);
     }
 }
 
-fn put_lengths(
-    key: usize,
-    nonce: usize,
-    data: usize,
-    text: usize,
-    room: usize,
-    tag: usize,
-    bit: usize,
-) {
-    io::print_decimal(STDOUT_FILENO, key as u64);
-    put_number(nonce as u64);
-    put_number(data as u64);
-    put_number(text as u64);
-    put_number(room as u64);
-    put_number(tag as u64);
-    put_number(bit as u64);
-}
-
 // What a call answered, and what it left in its room.
-fn put(number: u32, room: &[u8]) {
-    put_number(number as u64);
+fn put(answer: &Result<(), Refusal>, room: &[u8]) {
+    put_answer(answer);
     if room.len() <= 32 {
         put_bytes(room);
     } else {
         let mut d = [0u8; 16];
-        blake::digest(&room[..0], room, &mut d);
-        put_bytes(&d);
+        let digest = blake::digest(&[], room, &mut d);
+        if digest.is_ok() {
+            put_bytes(&d);
+        }
     }
 }

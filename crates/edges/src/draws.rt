@@ -1,64 +1,58 @@
 // Draws a nonce, an iv and a nonce, each on the drawer that the last one handed back. A line has the reader number and
 // the count at the start and then, for each of the three, the number answered, the bytes, and the reader number and
 // the count handed back.
-use super::{STDOUT_FILENO, put_bytes, put_number};
-use drawer::Drawer;
+use super::{STDOUT_FILENO, put_answer, put_bytes, put_number};
+use answers::Refusal;
+use drawer::{Drawer, Drawn};
 
 pub(crate) fn draws() {
-    from_counts(0);
-    from_counts(1);
-    from_counts(0x01020304);
-    from_counts(0xffffffff);
+    for reader in [0, 1, 0x01020304, 0xffffffff] {
+        from_counts(reader);
+    }
 }
 
 // The counts where a byte, or the second half, comes in, and the last ones.
 fn from_counts(reader: u32) {
-    from_count(reader, 0);
-    from_count(reader, 1);
-    from_count(reader, 0xff);
-    from_count(reader, 0x100);
-    from_count(reader, 0xffffffff);
-    from_count(reader, 0x100000000);
-    from_count(reader, 0x0102030405060708);
-    from_count(reader, 0x8000000000000000);
-    from_count(reader, 0xfffffffffffffffc);
-    from_count(reader, 0xfffffffffffffffd);
-    from_count(reader, 0xfffffffffffffffe);
-    from_count(reader, 0xffffffffffffffff);
+    for count in [
+        0,
+        1,
+        0xff,
+        0x100,
+        0xffffffff,
+        0x100000000,
+        0x0102030405060708,
+        0x8000000000000000,
+        0xfffffffffffffffc,
+        0xfffffffffffffffd,
+        0xfffffffffffffffe,
+        0xffffffffffffffff,
+    ] {
+        from_count(drawer::start(reader, count));
+    }
 }
 
-fn from_count(reader: u32, count: u64) {
+fn from_count(d: Drawer) {
     io::write_all(STDOUT_FILENO, b"draw");
-    put_drawer(drawer::start(reader, count));
-    let d = nonce(drawer::start(reader, count));
-    let e = iv(d);
-    nonce(e);
+    put_drawer(d);
+    let d = put_drawn(drawer::draw(d), d);
+    let d = put_drawn(drawer::iv(d), d);
+    put_drawn(drawer::draw(d), d);
     io::write_all(STDOUT_FILENO, b"\n");
 }
 
-fn nonce(d: Drawer) -> Drawer {
-    let drawn = drawer::draw(d);
-    let bytes = drawn.bytes;
-    let next = drawn.next;
-    put_drawn(drawn.number, &bytes, next);
-    next
-}
-
-fn iv(d: Drawer) -> Drawer {
-    let drawn = drawer::iv(d);
-    let bytes = drawn.bytes;
-    let next = drawn.next;
-    put_drawn(drawn.number, &bytes, next);
-    next
-}
-
-fn put_drawn(number: u32, bytes: &[u8], next: Drawer) {
-    put_number(number as u64);
-    put_bytes(bytes);
-    put_drawer(next);
+// Hands the next drawer back. Where the draw is refused that is d, and the bytes are 0.
+fn put_drawn<const N: usize>(drawn: Result<Drawn<N>, Refusal>, d: Drawer) -> Drawer {
+    put_answer(&drawn);
+    let drawn = drawn.unwrap_or(Drawn {
+        bytes: [0; N],
+        next: d,
+    });
+    put_bytes(&drawn.bytes);
+    put_drawer(drawn.next);
+    drawn.next
 }
 
 pub(crate) fn put_drawer(d: Drawer) {
-    put_number(d.reader as u64);
+    put_number(u64::from(d.reader));
     put_number(d.count);
 }

@@ -10,6 +10,8 @@ mod draws; // draws.rt: the drawer of nonces
 mod keys; // keys.rt: the key books
 mod streams; // streams.rt: the key stream
 
+use answers::{Refusal, told};
+
 // Where a program prints.
 pub(crate) const STDOUT_FILENO: i32 = 1;
 
@@ -22,19 +24,19 @@ fn main() {
 }
 
 // Bytes by a rule of the place, the same in each run.
+// Rooms here and in the modules are arrays, filled before a call and shown after it: the program takes no memory.
 fn fill(s: &mut [u8], salt: usize)
     requires { (salt ≤ 255) × (length s.old ≤ 65537) }
 {
-    let mut i = 0;
-    while i < s.len() {
-        s[i] = ((salt + 29 * i + 17 * (i / 256)) % 256) as u8;
-        i += 1;
+    for (i, byte) in s.iter_mut().enumerate() {
+        *byte = ((salt + 29 * i + 17 * (i / 256)) % 256) as u8;
     }
 }
 
 // The first n bytes of s, or all.
 fn first_mut(s: &mut [u8], n: usize) -> &mut [u8] {
-    if n < s.len() { &mut s[..n] } else { s }
+    let most = n.min(s.len());
+    &mut s[..most]
 }
 
 fn put_number(n: u64) {
@@ -42,10 +44,23 @@ fn put_number(n: u64) {
     io::print_decimal(STDOUT_FILENO, n);
 }
 
+// Four lines that packs has too: a crate for them would be no plainer.
+fn put_numbers(numbers: &[usize]) {
+    for &n in numbers {
+        put_number(n as u64);
+    }
+}
+
+// The number of what was answered.
+fn put_answer<T>(answer: &Result<T, Refusal>) {
+    put_number(u64::from(told(answer)));
+}
+
 // A space and bytes, at most 208.
 fn put_bytes(s: &[u8]) {
     let mut shown = [0u8; 416];
-    let n = hexadecimal::show(s, &mut shown);
     io::write_all(STDOUT_FILENO, b" ");
-    io::write_all(STDOUT_FILENO, words::first(&shown, n));
+    if let Ok(n) = hexadecimal::show(s, &mut shown) {
+        io::write_all(STDOUT_FILENO, words::first(&shown, n));
+    }
 }

@@ -1,52 +1,42 @@
 // Adds the key stream to texts, from starts at both ends of the counter and beyond. A line has the lengths of key and
 // nonce, the start and the length of the text, and then the number answered, where the stream stopped and the bytes of
 // the text.
-use super::{STDOUT_FILENO, fill, first_mut, put_bytes, put_number};
+use super::{STDOUT_FILENO, fill, first_mut, put_answer, put_bytes, put_number, put_numbers};
 use words::first;
 
+const STARTS: [u64; 9] = [
+    0,
+    1,
+    0xfffffffe,
+    0xffffffff,
+    0x100000000,
+    0x100000001,
+    0x100000002,
+    0x8000000000000000,
+    0xffffffffffffffff,
+];
+
+// With the lengths that key and nonce must have, then with others.
 pub(crate) fn streams() {
-    from_starts(true);
-    from_starts(false);
-}
-
-// With the lengths that key and nonce must have, or with others.
-fn from_starts(allowed: bool) {
-    from_start(allowed, 0);
-    from_start(allowed, 1);
-    from_start(allowed, 0xfffffffe);
-    from_start(allowed, 0xffffffff);
-    from_start(allowed, 0x100000000);
-    from_start(allowed, 0x100000001);
-    from_start(allowed, 0x100000002);
-    from_start(allowed, 0x8000000000000000);
-    from_start(allowed, 0xffffffffffffffff);
-}
-
-fn from_start(allowed: bool, start: u64) {
-    if allowed {
+    for start in STARTS {
         all_texts(start);
-    } else {
+    }
+    for start in STARTS {
         wrong_lengths(start);
     }
 }
 
 // Texts of no, one, two and three blocks, the last one full or not.
 fn all_texts(start: u64) {
-    stream(32, 12, start, 0);
-    stream(32, 12, start, 1);
-    stream(32, 12, start, 63);
-    stream(32, 12, start, 64);
-    stream(32, 12, start, 65);
-    stream(32, 12, start, 128);
-    stream(32, 12, start, 129);
+    for text_len in [0, 1, 63, 64, 65, 128, 129] {
+        stream(32, 12, start, text_len);
+    }
 }
 
 fn wrong_lengths(start: u64) {
-    stream(31, 12, start, 1);
-    stream(33, 12, start, 1);
-    stream(32, 11, start, 1);
-    stream(32, 13, start, 1);
-    stream(31, 11, start, 1);
+    for (key_len, nonce_len) in [(31, 12), (33, 12), (32, 11), (32, 13), (31, 11)] {
+        stream(key_len, nonce_len, start, 1);
+    }
 }
 
 fn stream(key_len: usize, nonce_len: usize, start: u64, text_len: usize) {
@@ -57,14 +47,14 @@ fn stream(key_len: usize, nonce_len: usize, start: u64, text_len: usize) {
     fill(&mut nonce, 8);
     fill(&mut text, 9);
     let part = first_mut(&mut text, text_len);
-    let s = chacha::stream(first(&key, key_len), first(&nonce, nonce_len), start, part);
+    let streamed = chacha::stream(first(&key, key_len), first(&nonce, nonce_len), start, part);
     io::write_all(STDOUT_FILENO, b"stream");
-    put_number(key_len as u64);
-    put_number(nonce_len as u64);
+    put_numbers(&[key_len, nonce_len]);
     put_number(start);
     put_number(text_len as u64);
-    put_number(s.number as u64);
-    put_number(s.next);
+    put_answer(&streamed);
+    // A stream that is refused stops where it starts.
+    put_number(streamed.unwrap_or(start));
     put_bytes(part);
     io::write_all(STDOUT_FILENO, b"\n");
 }

@@ -1,17 +1,16 @@
 -- The key state in its halves, and what is worked out from it.
-use mathlib.Core.Path.{◌≡◌, refl, sym, ap, ap₂, subst⁻¹, ◌∙◌}
-use Prim.Native.Nat.{ℕ, ◌+◌, ◌-◌, ◌*◌, ◌/◌, ◌%◌, ◌^◌, ◌≤◌, ◌<◌}
+use mathlib.Core.Path.{◌≡◌, refl, sym, ap, ap₂, ◌∙◌}
+use Prim.Native.Nat.{ℕ, ◌+◌, ◌*◌, ◌/◌, ◌%◌, ◌^◌, ◌<◌}
 use native.Mathlib.Nat.{div-one}
 use native.Mathlib.Omega.{arith}
 use lib.Bits.{bit_xor}
 use lib.Dec.{lit≤}
-use lib.Pow.{mod-pow-add, mod-mod-pow}
+use lib.Pow.{mod-pow-add}
 use Rattle.words.specs.declared.Block.{Block}
 use Rattle.words.specs.Block.{value, halves}
 use Rattle.words.specs.Digits.{rotr}
 use Rattle.words.specs.Iterate.{iterate}
 use Rattle.words.proofs.Blocks.{whole, value-is}
-use Rattle.words.proofs.Rotation.{rotr-is, rotr-lt}
 use Rattle.words.proofs.Iterate.{iterate-next}
 use Rattle.gift.specs.Gift.{word, key_u, key_v, key_bits, step_const, round_const, const_bits, key_step, key_at}
 use Rattle.gift.specs.Gift.{round_key}
@@ -30,16 +29,6 @@ key_v-is k =
     mod-pow-add k.lo 16 16
     ∙ ap₂ (λ (x y : ℕ). x * 2 ^ 16 + y) (field-low k 16 16 (lit≤ tt))
     (ap (λ (x : ℕ). x % 2 ^ 16) (sym (div-one k.lo)) ∙ field-low k 0 16 (lit≤ tt))
-
--- ---- a rotated word
-
-pub rotated : (w n : ℕ) → n ≤ 16 → w < 2 ^ 16
-    → (w * 2 ^ (16 - n) % 2 ^ 64 % 2 ^ 16 + w / 2 ^ n ≡ rotr 16 n w)
-    × (w * 2 ^ (16 - n) % 2 ^ 64 % 2 ^ 16 + w / 2 ^ n < 2 ^ 16)
-rotated w n h hw =
-    let e : w * 2 ^ (16 - n) % 2 ^ 64 % 2 ^ 16 + w / 2 ^ n ≡ rotr 16 n w =
-    ap (λ (x : ℕ). x + w / 2 ^ n) (mod-mod-pow (w * 2 ^ (16 - n)) 48 16) ∙ rotr-is 16 n w h in
-    (e, subst⁻¹ (λ (x : ℕ). x < 2 ^ 16) e (rotr-lt 16 n w h hw))
 
 -- ---- the step
 

@@ -4,16 +4,17 @@
 ghost use Rattle.std.specs.Prelude.{cond, ◌≡◌, ◌+◌, ◌-◌, ◌*◌, ◌/◌, ◌%◌, ◌<◌, ◌≤◌, ◌^◌};
 ghost use Rattle.std.specs.Int.Bits.{bit_xor};
 ghost use Rattle.words.specs.Block.{value, halves};
-ghost use Rattle.words.specs.Digits.{rotr};
 ghost use Rattle.answers.specs.Answers.{number_of, answered};
-ghost use Rattle.gift.specs.Gift.{sbox, sub_cells, perm_bits, spread, key_bits, step_const, const_bits, key_step};
-ghost use Rattle.gift.specs.Gift.{round, forty};
-ghost use Rattle.gift.specs.Entry.{place_table, round_keys, round_key_in, enciphers, deciphers, rows, crypting};
+ghost use Rattle.answers.specs.Told.{told};
+ghost use Rattle.gift.specs.Gift.{sbox, sub_cells, place, perm_bits, spread, key_bits, step_const, const_bits};
+ghost use Rattle.gift.specs.Gift.{key_step, round, forty};
+ghost use Rattle.gift.specs.Entry.{round_keys, round_key_in, enciphers, deciphers, rows, crypting};
 ghost use Rattle.gift.specs.Entry.{Enciphering, Deciphering};
 
 mod places;
 
-use answers::row;
+use answers::{Refusal, refuse};
+use places::PLACES;
 use words::Block;
 
 // The round keys with the round constants: worked out once for a key, they serve for many blocks.
@@ -22,16 +23,16 @@ pub struct RoundKeys {
     pub rounds: [Block; 40],
 }
 
-// Enciphers block in place. Answers 0, or the refusal.
-pub fn encipher(key: &[u8], block: &mut [u8]) -> u32
-    ensures { Enciphering result key.now block.old block.new }
+// Enciphers block in place.
+pub fn encipher(key: &[u8], block: &mut [u8]) -> Result<(), Refusal>
+    ensures { Enciphering (told result) key.now block.old block.new }
 {
     crypt(false, key, block)
 }
 
-// Deciphers block in place. Answers 0, or the refusal.
-pub fn decipher(key: &[u8], block: &mut [u8]) -> u32
-    ensures { Deciphering result key.now block.old block.new }
+// Deciphers block in place.
+pub fn decipher(key: &[u8], block: &mut [u8]) -> Result<(), Refusal>
+    ensures { Deciphering (told result) key.now block.old block.new }
 {
     crypt(true, key, block)
 }
@@ -40,17 +41,15 @@ pub fn decipher(key: &[u8], block: &mut [u8]) -> u32
 pub fn round_keys_of(key: Block) -> RoundKeys
     ensures { result ≡ round_keys (value key) }
 {
-    let mut out = [Block { lo: 0, hi: 0 }; 40];
+    let mut rounds = [Block::from(0); 40];
     let mut state = key;
-    let mut c: u64 = 0;
-    let mut i: usize = 0;
-    while i < 40 {
+    let mut c = 0;
+    for round_key in rounds.iter_mut() {
         c = step_const(c);
-        out[i] = words::xor(key_bits(state), const_bits(c));
+        *round_key = key_bits(state) ^ const_bits(c);
         state = key_step(state);
-        i += 1;
     }
-    RoundKeys { rounds: out }
+    RoundKeys { rounds }
 }
 
 // The block that forty rounds make of x, adding the round keys a.
@@ -67,37 +66,34 @@ pub fn decipher_block(a: RoundKeys, x: Block) -> Block
     forty_rounds(true, a, x)
 }
 
-// Both entry points; back tells which.
-fn crypt(back: bool, key: &[u8], block: &mut [u8]) -> u32
-    ensures { answered result block.new ≡ crypting back key.now block.old }
+// Both entry points; back tells which: a `bool`, as the definition of the cipher takes it.
+fn crypt(back: bool, key: &[u8], block: &mut [u8]) -> Result<(), Refusal>
+    ensures { answered (told result) block.new ≡ crypting back key.now block.old }
 {
-    let refused = refusal(key.len(), block.len());
-    if refused != 0 {
-        return refused;
-    }
+    refusal(key.len(), block.len())?;
     let a = round_keys_of(words::load(key, 0, 16));
-    let x = words::load(&block[..], 0, 16);
+    let x = words::load(block, 0, 16);
     words::store(block, 0, 16, forty_rounds(back, a, x));
-    0
+    Ok(())
 }
 
-// The refusal that the lengths call for, or 0.
-fn refusal(key: usize, block: usize) -> u32
-    ensures { result ≡ number_of (rows key block) }
+// The refusal that the lengths call for.
+fn refusal(key: usize, block: usize) -> Result<(), Refusal>
+    ensures { told result ≡ number_of (rows key block) }
 {
-    row(key != 16, 1, row(block != 16, 4, 0))
+    refuse(key != 16, Refusal::KeyLength)?;
+    refuse(block != 16, Refusal::TextLength)
 }
 
+// One copy for all that call it: inlined, each way has its own, and a call takes 640 bytes more of stack.
+#[inline(never)]
 fn forty_rounds(back: bool, a: RoundKeys, x: Block) -> Block
     ensures { result ≡ halves (forty back (round_key_in a) (value x)) }
 {
-    let places = places::PLACES;
     let mut y = x;
-    let mut r: usize = 0;
-    while r < 40 {
+    for r in 0..40 {
         let at = round_index(back, r);
-        y = round_of(back, a.rounds[at], y, &places);
-        r += 1;
+        y = round_of(back, a.rounds[at], y);
     }
     y
 }
@@ -111,25 +107,22 @@ fn round_index(back: bool, r: usize) -> usize
 }
 
 // A round that adds a, or that round undone.
-fn round_of(back: bool, a: Block, x: Block, places: &[u8; 128]) -> Block
-    requires { places.now ≡ place_table }
+fn round_of(back: bool, a: Block, x: Block) -> Block
     ensures { result ≡ halves (round back (value a) (value x)) }
 {
     if back {
-        return sub_cells(back, perm_bits(back, words::xor(x, a), places));
+        return sub_cells(back, perm_bits(back, x ^ a));
     }
-    words::xor(perm_bits(back, sub_cells(back, x), places), a)
+    perm_bits(back, sub_cells(back, x)) ^ a
 }
 
 // Step 1, or undone.
 fn sub_cells(back: bool, x: Block) -> Block
     ensures { result ≡ halves (sub_cells back (value x)) }
 {
-    let mut acc = Block { lo: 0, hi: 0 };
-    let mut j: u64 = 0;
-    while j < 32 {
+    let mut acc = Block::from(0);
+    for j in 0..32 {
         acc = put(acc, 4 * j, sbox_of(back, bits_at(x, 4 * j, 4)));
-        j += 1;
     }
     acc
 }
@@ -143,40 +136,41 @@ fn sbox_of(back: bool, n: u64) -> u64
     requires { n < 16 }
     ensures { (result ≡ sbox back n) × (result < 16) }
 {
-    (either(back, SBOX_BACK, SBOX) >> (4 * n)) % 16
+    let sbox = if back { SBOX_BACK } else { SBOX };
+    (sbox >> (4 * n)) % 16
 }
 
 // Step 2, or undone: bit i to its place, or from there.
-fn perm_bits(back: bool, x: Block, places: &[u8; 128]) -> Block
-    requires { places.now ≡ place_table }
+fn perm_bits(back: bool, x: Block) -> Block
     ensures { result ≡ halves (perm_bits back (value x)) }
 {
-    let mut acc = Block { lo: 0, hi: 0 };
-    let mut i: usize = 0;
-    while i < 128 {
-        let p = words::wide(places[i]);
-        let from = either(back, p, i as u64);
-        let to = either(back, i as u64, p);
+    let mut acc = Block::from(0);
+    for i in 0..128 {
+        let (from, to) = ends(back, i);
         acc = put(acc, to, bits_at(x, from, 1));
-        i += 1;
     }
     acc
 }
 
-fn either(first: bool, a: u64, b: u64) -> u64
-    ensures { result ≡ cond first a b }
+// From where a bit moves, and to where.
+fn ends(back: bool, i: usize) -> (u64, u64)
+    requires { i < 128 }
+    ensures { result ≡ (cond back (place i) i, cond back i (place i)) }
 {
-    if first { a } else { b }
+    let i_place = u64::from(PLACES[i]);
+    // `as`: the library has no From between the two, and the number is proved to fit.
+    if back {
+        (i_place, i as u64)
+    } else {
+        (i as u64, i_place)
+    }
 }
 
 // Step 3.
 fn key_bits(k: Block) -> Block
     ensures { result ≡ halves (key_bits (value k)) }
 {
-    words::xor(
-        spread_of(2, 32, k.hi % 4294967296),
-        spread_of(1, 32, k.lo % 4294967296),
-    )
+    spread_of(2, 32, k.hi % 4294967296) ^ spread_of(1, 32, k.lo % 4294967296)
 }
 
 fn step_const(c: u64) -> u64
@@ -198,11 +192,9 @@ fn spread_of(o: u64, n: u64, u: u64) -> Block
     requires { (o < 4) × (n ≤ 32) }
     ensures { result ≡ halves (spread o n u) }
 {
-    let mut acc = Block { lo: 0, hi: 0 };
-    let mut i: u64 = 0;
-    while i < n {
+    let mut acc = Block::from(0);
+    for i in 0..n {
         acc = put(acc, 4 * i + o, (u >> i) % 2);
-        i += 1;
     }
     acc
 }
@@ -211,20 +203,15 @@ fn spread_of(o: u64, n: u64, u: u64) -> Block
 fn key_step(k: Block) -> Block
     ensures { result ≡ halves (key_step (value k)) }
 {
-    let a = rotr16(k.lo / 65536 % 65536, 2);
-    let b = rotr16(k.lo % 65536, 12);
+    // Cut by the remainder before: `as` loses nothing that is meant.
+    let k1 = (k.lo / 65536 % 65536) as u16;
+    let k0 = (k.lo % 65536) as u16;
+    let a = u64::from(k1.rotate_right(2));
+    let b = u64::from(k0.rotate_right(12));
     Block {
         lo: k.lo / 4294967296 + k.hi % 4294967296 * 4294967296,
         hi: k.hi / 4294967296 + b * 4294967296 + a * 281474976710656,
     }
-}
-
-// A word of 16 bits rotated right by n.
-fn rotr16(w: u64, n: u64) -> u64
-    requires { (w < 65536) × (n ≤ 16) }
-    ensures { (result ≡ rotr 16 n w) × (result < 65536) }
-{
-    (w << (16 - n)) % 65536 + (w >> n)
 }
 
 // b with v, shifted to s, added; v does not reach over the middle.

@@ -1,5 +1,6 @@
-// The place to which bit i moves.
-pub const PLACES: [u8; 128] = [
+// The place to which bit i moves. A `static` has one place in memory; a constant is built anew where it is read at an
+// index.
+pub static PLACES: [u8; 128] = [
     0, 33, 66, 99, 96, 1, 34, 67, 64, 97, 2, 35, 32, 65, 98, 3, 4, 37, 70, 103, 100, 5, 38, 71, 68,
     101, 6, 39, 36, 69, 102, 7, 8, 41, 74, 107, 104, 9, 42, 75, 72, 105, 10, 43, 40, 73, 106, 11,
     12, 45, 78, 111, 108, 13, 46, 79, 76, 109, 14, 47, 44, 77, 110, 15, 16, 49, 82, 115, 112, 17,

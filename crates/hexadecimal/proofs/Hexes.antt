@@ -1,23 +1,27 @@
 -- Hex: what the code makes of it, and that what is written is read back.
 use mathlib.Core.Path.{◌≡◌, refl, sym, ap, ap₂, ◌∙◌}
 use mathlib.Core.Bool.{Bool, true, false, cond}
-use mathlib.Core.List.{List, [], ◌∷◌, ◌++◌}
-use Prim.Native.Nat.{ℕ, suc, ◌+◌, ◌*◌, ◌/◌, ◌%◌, ◌≤◌, ◌<◌}
+use mathlib.Core.List.{List, [], ◌∷◌, ◌++◌, append_assoc}
+use Prim.Native.Nat.{ℕ, suc, ◌+◌, ◌-◌, ◌*◌, ◌/◌, ◌%◌, ◌≤◌, ◌<◌}
 use native.Mathlib.Nat.{zero-add, add-zero}
 use native.Mathlib.Numerals.{add-one}
 use native.Mathlib.Omega.{arith}
-use lib.Dec.{eqb, ltb, eqb→eq}
-use lib.ListN.{length, drop, get_or, set, length-set, drop_of_length-le}
-use lib.Seq.{sets, drop-cons}
-use borrow.Author.Tests.{lt-ltb, le-ltb, eq-eqb, ne_eqb}
+use lib.Dec.{ltb}
+use borrow.Rule.Slice.PartMut.{put_mid}
+use lib.ListN.{length, take, drop, get_or, set, length-set, drop_of_length-le}
+use lib.Seq.{sets, sets-eq, drop-drop, drop-cons}
+use borrow.Author.Tests.{lt-ltb, le-ltb}
 use Rattle.words.specs.Bytes.{Bytes, over}
 use Rattle.answers.specs.Answers.{Answer, answered}
 use Rattle.words.proofs.Lists.{sets-append}
 use Rattle.words.proofs.Over.{sets-front}
-use Rattle.words.proofs.Tests.{below}
+use Rattle.std.specs.Prelude.{None, Result, Ok, Err}
+use Rattle.answers.specs.declared.Refusal.{Refusal}
+use Rattle.answers.specs.declared.Refusal.TheVariants.{RoomLength}
 use Rattle.hexadecimal.specs.declared.Hex.{Hex}
+use Rattle.hexadecimal.specs.declared.Meaning.TheVariants.{Digit}
 use Rattle.hexadecimal.specs.Hex.{glyph, digits_of, written, spelling, Spelling, word_of, showing, Showing, meaning}
-use Rattle.hexadecimal.specs.Hex.{Reading, start, spoilt, halfway, whole, taken_byte, taken_in}
+use Rattle.hexadecimal.specs.Hex.{Reading, start, taken_byte, taken_in}
 
 -- ---- writing
 
@@ -27,11 +31,21 @@ length-written [] = refl
 length-written (b ∷ s) = omega (arith, length-written s)
 
 -- one step of the loop
-pub write-next : (s room room' l : List ℕ) (i : ℕ) → i < length s → room' ≡ sets room (2 * i) (digits_of (get_or s i 0))
+pub write-next : (s room room' l p : List ℕ) (i : ℕ) → i < length s → 2 * length s ≤ length room
+    → p ≡ digits_of (get_or s i 0) → room' ≡ put_mid (2 * i) (2 * i + 2 - 2 * i) room p
     → sets room (2 * i) (written (drop i s)) ≡ l
     → sets room' (2 * (i + 1)) (written (drop (i + 1) s)) ≡ l
 unfolding written digits_of
-write-next s room room' l i h e inv =
+write-next s room room' l p i h k ep er inv =
+    let two : 2 * i + 2 - 2 * i ≡ 2 = omega arith in
+    let e : room' ≡ sets room (2 * i) (digits_of (get_or s i 0)) =
+    er ∙ rw (
+      two,
+      ep,
+      drop-drop 2 (2 * i) room,
+      ← append_assoc (take (2 * i) room) (digits_of (get_or s i 0))
+          (drop (2 * i + 2) room),
+    ) (sym (sets-eq (digits_of (get_or s i 0)) room (2 * i) (omega arith))) in
     let at : 2 * (i + 1) ≡ 2 * i + 2 = omega arith in
     rw (at, add-one, e) (sets-append room (2 * i) (digits_of (get_or s i 0)) (written (drop (suc i) s))
     ∙ ap (λ (t : List ℕ). sets room (2 * i) (written t)) (sym (drop-cons s i 0 h)) ∙ inv)
@@ -42,22 +56,32 @@ unfolding written
 write-end s room l i h inv =
     ap (λ (t : List ℕ). sets room (2 * i) (written t)) (sym (drop_of_length-le s {i = i} h)) ∙ inv
 
-pub write-first : (s room : List ℕ) → 2 * length s ≤ length room
-    → sets room (2 * 0) (written (drop 0 s)) ≡ over (written s) room
-write-first s room h = sets-front (written s) room (omega (arith, length-written s))
+module _ (s room : List ℕ) where
+  pub write-first : length s ≤ length room / 2 → sets room 0 (written s) ≡ over (written s) room
+  write-first h = sets-front (written s) room (omega (arith, length-written s))
+
+  pub spell-refused : {n : ℕ} → n ≡ 6 → length room / 2 < length s → Spelling n s room room
+  unfolding spelling
+  spell-refused e h = rw (e, lt-ltb (length room) (2 * length s) (omega arith))
+
+  pub spell-done : {room' : List ℕ} → length s ≤ length room / 2 → room' ≡ over (written s) room
+      → Spelling 0 s room room'
+  unfolding spelling
+  spell-done h e = rw (e, le-ltb (length room) (2 * length s) (omega arith))
 
 -- ---- a word
 
-pub dash-none : (room : List ℕ) → length room ≡ 0 → Showing 0 [] room room
+pub dash-none : (room : List ℕ) → length room ≡ 0 → Showing (Err RoomLength) [] room room
 unfolding showing word_of
 dash-none room h = rw (lt-ltb (length room) 1 (omega arith))
 
-pub dash-one : (room : List ℕ) → (length room ≡ 0 → ⊥) → Showing 1 [] room (set room 0 45)
+pub dash-one : (room : List ℕ) → (length room ≡ 0 → ⊥) → Showing (Ok 1) [] room (set room 0 45)
 unfolding showing word_of
 dash-one room h =
-    rw (le-ltb (length room) 1 (omega arith)) (ap (λ (l : List ℕ). (1, l)) (sets-front (45 ∷ []) room (omega arith)))
+    rw (le-ltb (length room) 1 (omega arith))
+    (ap (λ (l : List ℕ). (Ok 1, l)) (sets-front (45 ∷ []) room (omega arith)))
 
-pub word_none : (s room : List ℕ) {r : ℕ} {room' : List ℕ} → length s ≡ 0 → Showing r [] room room'
+pub word_none : (s room : List ℕ) {r : Result ℕ Refusal} {room' : List ℕ} → length s ≡ 0 → Showing r [] room room'
     → Showing r s room room'
 word_none [] room h e = e
 word_none (b ∷ s) room h e = absurd (omega arith)
@@ -67,48 +91,38 @@ unfolding word_of
 some_word [] h = absurd (h refl)
 some_word (b ∷ s) h = refl
 
-module _ (s room : List ℕ) {n : ℕ} {room' : List ℕ} (e : Spelling n s room room') (h : length s ≡ 0 → ⊥) where
-  shows : showing s room ≡ cond (ltb (length room) (2 * length s)) (0, room) (2 * length s, over (written s) room)
+module _ (s room : List ℕ) (h : length s ≡ 0 → ⊥) where
+  shows : showing s room
+      ≡ cond (ltb (length room) (2 * length s)) (Err RoomLength, room) (Ok (2 * length s), over (written s) room)
   unfolding showing
   shows = rw (some_word s h, length-written s)
 
-  pub word-refused : (n ≡ 0 → ⊥) → Showing 0 s room room'
+  pub word-refused : {room' : List ℕ} → Spelling 6 s room room' → Showing (Err RoomLength) s room room'
   unfolding spelling
-  word-refused z = by (ltb (length room) (2 * length s)) (over (written s) room) e ∙ sym shows
+  word-refused {room' = room'} e = by (ltb (length room) (2 * length s)) (over (written s) room) e ∙ sym shows
     where
-      by : (u : Bool) (y : List ℕ) → answered n room' ≡ cond u (answered 6 room) (answered 0 y)
-          → ◌≡◌ {A = ℕ × List ℕ} (0, room') (cond u (0, room) (2 * length s, y))
-      by true y q = ap (λ (a : Answer (List ℕ)). (0, a.outcome)) q
-      by false y q = absurd (z (ap (λ (a : Answer (List ℕ)). a.number) q))
+      by : (u : Bool) (y : List ℕ) → answered 6 room' ≡ cond u (answered 6 room) (answered 0 y)
+          → ◌≡◌ {A = Result ℕ Refusal × List ℕ} (Err RoomLength, room')
+          (cond u (Err RoomLength, room) (Ok (2 * length s), y))
+      by true y q = ap (λ (a : Answer (List ℕ)). (Err RoomLength, a.outcome)) q
+      by false y q = absurd (omega (arith, ap (λ (a : Answer (List ℕ)). a.number) q))
 
-  pub word-is : n ≡ 0 → Showing (2 * length s) s room room'
+  pub word-is : {room' : List ℕ} → Spelling 0 s room room' → Showing (Ok (2 * length s)) s room room'
   unfolding spelling
-  word-is z = by (ltb (length room) (2 * length s)) (over (written s) room) e ∙ sym shows
+  word-is {room' = room'} e = by (ltb (length room) (2 * length s)) (over (written s) room) e ∙ sym shows
     where
-      by : (u : Bool) (y : List ℕ) → answered n room' ≡ cond u (answered 6 room) (answered 0 y)
-          → ◌≡◌ {A = ℕ × List ℕ} (2 * length s, room') (cond u (0, room) (2 * length s, y))
-      by true y q = absurd (omega (arith, z, ap (λ (a : Answer (List ℕ)). a.number) q))
-      by false y q = ap (λ (a : Answer (List ℕ)). (2 * length s, a.outcome)) q
+      by : (u : Bool) (y : List ℕ) → answered 0 room' ≡ cond u (answered 6 room) (answered 0 y)
+          → ◌≡◌ {A = Result ℕ Refusal × List ℕ} (Ok (2 * length s), room')
+          (cond u (Err RoomLength, room) (Ok (2 * length s), y))
+      by true y q = absurd (omega (arith, ap (λ (a : Answer (List ℕ)). a.number) q))
+      by false y q = ap (λ (a : Answer (List ℕ)). (Ok (2 * length s), a.outcome)) q
 
 -- ---- reading
 
-module _ (b : ℕ) (r : Reading) {d : ℕ} (e : d ≡ meaning b) where
-  pub read-white : d ≡ 16 → r ≡ taken_byte b r
-  unfolding taken_byte
-  read-white h = simp (eq-eqb (meaning b) 16 (sym e ∙ h))
-
-  pub read-other : d ≡ 17 → record { hex = spoilt r.hex; room = r.room } ≡ taken_byte b r
-  unfolding taken_byte
-  read-other h = let m : meaning b ≡ 17 = sym e ∙ h in rw m
-
-  module _ (n : d ≡ 16 → ⊥) (n' : d ≡ 17 → ⊥) where
-    pub read-high : r.hex.half ≡ false → record { hex = halfway d r.hex; room = r.room } ≡ taken_byte b r
-    unfolding taken_byte
-    read-high h = simp (ne_eqb (meaning b) 16 (λ z. n (e ∙ z)), ne_eqb (meaning b) 17 (λ z. n' (e ∙ z)), h) (rw e)
-
-    pub read_low : r.hex.half ≡ true → whole d r ≡ taken_byte b r
-    unfolding taken_byte
-    read_low h = simp (ne_eqb (meaning b) 16 (λ z. n (e ∙ z)), ne_eqb (meaning b) 17 (λ z. n' (e ∙ z)), h) (rw e)
+-- a digit is below 16
+pub digit_small : (b d : ℕ) → Digit d ≡ meaning b → d < 16
+unfolding meaning
+digit_small b d e = grind arith
 
 -- one step of the loop
 pub read_next : (text : List ℕ) (i : ℕ) (r r' l : Reading) → i < length text → r' ≡ taken_byte (get_or text i 0) r
@@ -129,31 +143,22 @@ taken_in-cut (b ∷ s) t r = taken_in-cut s t (taken_byte b r)
 
 -- ---- what is written is read back
 
-glyph-means : (d : ℕ) → d < 16 → meaning (glyph d) ≡ d
+glyph-means : (d : ℕ) → d < 16 → meaning (glyph d) ≡ Digit d
 unfolding meaning glyph
-glyph-means d h = eqb→eq (meaning (glyph d)) d (below (λ k. eqb (meaning (glyph k)) k) 16 tt d h)
+glyph-means d h = grind arith
 
 -- good so far, with n bytes in the room
 abbrev at_byte : ℕ → Hex
-at_byte n = record { good = true; half = false; high = 0; len = n }
+at_byte n = record { good = true; high = None; len = n }
 
 -- the digits of one byte
 byte-back : (b n : ℕ) (room : List ℕ) → b < 256 → n < length room
     → taken_byte (glyph (b % 16)) (taken_byte (glyph (b / 16)) (record { hex = at_byte n; room = room }))
     ≡ record { hex = at_byte (n + 1); room = set room n b }
+unfolding taken_byte
 byte-back b n room h k =
-    let hi : b / 16 < 16 = omega arith in
-    let lo : b % 16 < 16 = omega arith in
-    let e₁ : record { hex = halfway (b / 16) (at_byte n); room = room }
-    ≡ taken_byte (glyph (b / 16)) (record { hex = at_byte n; room = room }) =
-    read-high (glyph (b / 16)) (record { hex = at_byte n; room = room }) (sym (glyph-means (b / 16) hi))
-    (λ z. omega (arith, z)) (λ z. omega (arith, z)) refl in
-    let r : Reading = record { hex = halfway (b / 16) (at_byte n); room = room } in
-    let e₂ : whole (b % 16) r ≡ taken_byte (glyph (b % 16)) r =
-    read_low (glyph (b % 16)) r (sym (glyph-means (b % 16) lo)) (λ z. omega (arith, z)) (λ z. omega (arith, z)) refl in
     let v : b / 16 % 16 * 16 + b % 16 ≡ b = omega arith in
-    ap (taken_byte (glyph (b % 16))) (sym e₁) ∙ sym e₂
-    ∙ ap₂ (λ (l : ℕ) (x : ℕ). record { hex = at_byte l; room = set room n x }) (rw (lt-ltb n (length room) k)) v
+    rw (glyph-means (b / 16) (omega arith), glyph-means (b % 16) (omega arith), lt-ltb n (length room) k, v) refl
 
 pub reading-written : (s room : List ℕ) (n : ℕ) → Bytes s → n + length s ≤ length room
     → taken_in (written s) (record { hex = at_byte n; room = room })

@@ -2,6 +2,8 @@
 use mathlib.Core.Path.{◌≡◌, ap}
 use mathlib.Core.List.{List}
 use Prim.Native.Nat.{ℕ}
+use Rattle.std.specs.Prelude.{Result}
+use Rattle.answers.specs.declared.Refusal.{Refusal}
 use Rattle.answers.proofs.Answers.{same_answer}
 use Rattle.words.proofs.Unique.{same}
 use Rattle.hexadecimal.specs.declared.Hex.{Hex}
@@ -18,6 +20,8 @@ pub spell-unique : (s room : List ℕ) {m n : ℕ} {a b : List ℕ} → Spelling
     → (m ≡ n) × (a ≡ b)
 spell-unique s room = same_answer
 
-pub show-unique : (s room : List ℕ) {m n : ℕ} {a b : List ℕ} → Showing m s room a → Showing n s room b
+pub show-unique : (s room : List ℕ) {m n : Result ℕ Refusal} {a b : List ℕ} → Showing m s room a → Showing n s room b
     → (m ≡ n) × (a ≡ b)
-show-unique s room p q = let e = same p q in (ap (λ (r : ℕ × List ℕ). r.0) e, ap (λ (r : ℕ × List ℕ). r.1) e)
+show-unique s room p q =
+    let e = same p q in
+    (ap (λ (r : Result ℕ Refusal × List ℕ). r.0) e, ap (λ (r : Result ℕ Refusal × List ℕ). r.1) e)

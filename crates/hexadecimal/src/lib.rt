@@ -2,19 +2,29 @@
 // anywhere.
 #![tactic(auto)]
 
-ghost use Rattle.std.specs.Prelude.{◌≡◌, [], ◌+◌, ◌≤◌, ◌<◌, cond, ltb, length, set};
-ghost use Rattle.std.proofs.lemmas.List.Edits.{sets};
-ghost use Rattle.hexadecimal.specs.Hex.{white, meaning, glyph, digits_of, start, taken_byte, TakingIn, Spelling};
-ghost use Rattle.hexadecimal.specs.Hex.{Showing};
+ghost use Rattle.std.specs.Prelude.{◌≡◌, [], ◌+◌, ◌<◌, IfErr, cond, ltb, length, set};
+ghost use Rattle.answers.specs.Told.{told};
+ghost use Rattle.answers.specs.declared.Refusal.TheVariants.{RoomLength};
+ghost use Rattle.hexadecimal.specs.Hex.{meaning, glyph, digits_of, start, taken_byte, TakingIn, Spelling, Showing};
+
+use answers::{Refusal, refuse};
 
 // How far a text has been read: whether all of it was digits and white space, the high digit that waits for its low
-// one, and how many bytes are in the room.
-#[derive(Drop)]
+// one, and how many bytes are in the room. `good` is a flag beside them, since what follows a bad byte is read all the
+// same.
+#[derive(Clone, Copy, Debug, PartialEq, Eq)]
 pub struct Hex {
     pub good: bool,
-    pub half: bool,
-    pub high: u8,
+    pub high: Option<u8>,
     pub len: usize,
+}
+
+// What a byte of a text in hex is.
+#[derive(Clone, Copy, Debug, PartialEq, Eq)]
+enum Meaning {
+    Digit(u8),
+    White,
+    Other,
 }
 
 // The start of a text in hex, of which nothing has been read.
@@ -23,8 +33,7 @@ pub fn begin() -> Hex
 {
     Hex {
         good: true,
-        half: false,
-        high: 0,
+        high: None,
         len: 0,
     }
 }
@@ -34,155 +43,107 @@ pub fn begin() -> Hex
 pub fn take_in(h: Hex, text: &[u8], room: &mut [u8]) -> Hex
     ensures { TakingIn result h text.now room.old room.new }
 {
-    let mut s = h;
-    let mut i = 0;
-    while i < text.len() {
-        s = one(s, text[i], room);
-        i += 1;
+    let mut read = h;
+    for &b in text {
+        read = one(read, b, room);
     }
-    s
+    read
 }
 
-// Writes the digits of s to room. Answers 0, or 6 if they do not fit.
-pub fn spell(s: &[u8], room: &mut [u8]) -> u32
-    ensures { Spelling result s.now room.old room.new }
+// Writes the digits of s to room. Refuses, and leaves the room as it was, if they do not fit.
+pub fn spell(s: &[u8], room: &mut [u8]) -> Result<(), Refusal>
+    ensures answer { Spelling (told result) s.now room.old room.new }
+    ensures why { IfErr result (λ e. e ≡ RoomLength) }
 {
-    if room.len() / 2 < s.len() {
-        return 6;
+    refuse(room.len() / 2 < s.len(), Refusal::RoomLength)?;
+    // By places: of `chunks_exact_mut` the library does not promise what it leaves in the room.
+    for (i, &b) in s.iter().enumerate() {
+        room[2 * i..2 * i + 2].copy_from_slice(&digits(b));
     }
-    let mut i = 0;
-    while i < s.len() {
-        two(room, 2 * i, s[i]);
-        i += 1;
-    }
-    0
+    Ok(())
 }
 
-// Writes s to room as a word: its digits, or `-` if it has no bytes. Answers how long the word is, or 0 if it does not
-// fit.
-pub fn show(s: &[u8], room: &mut [u8]) -> usize
+// Writes s to room as a word: its digits, or `-` if it has no bytes. Answers how long the word is; refuses, and leaves
+// the room as it was, if it does not fit.
+pub fn show(s: &[u8], room: &mut [u8]) -> Result<usize, Refusal>
     ensures { Showing result s.now room.old room.new }
 {
-    if s.len() == 0 {
+    if s.is_empty() {
         return dash(room);
     }
-    if spell(s, room) != 0 {
-        return 0;
-    }
-    2 * s.len()
+    spell(s, room)?;
+    Ok(2 * s.len())
 }
 
-fn dash(room: &mut [u8]) -> usize
+fn dash(room: &mut [u8]) -> Result<usize, Refusal>
     ensures { Showing result [] room.old room.new }
 {
-    if room.len() == 0 {
-        return 0;
-    }
-    room[0] = b'-';
-    1
+    let Some(first) = room.first_mut() else {
+        return Err(Refusal::RoomLength);
+    };
+    *first = b'-';
+    Ok(1)
 }
 
-fn two(room: &mut [u8], at: usize, b: u8)
-    requires { at + 2 ≤ length room.old }
-    ensures { room.new ≡ sets room.old at (digits_of b) }
+#[tactic(auto, unfolding(crate::specs::Hex::digits_of))]
+fn digits(b: u8) -> [u8; 2]
+    ensures { result ≡ digits_of b }
 {
-    room[at] = glyph_of(b / 16);
-    room[at + 1] = glyph_of(b % 16);
+    [glyph_of(b / 16), glyph_of(b % 16)]
 }
 
+#[tactic(auto, using(crate::proofs::Hexes::digit_small), unfolding(crate::specs::Hex::taken_byte))]
 fn one(h: Hex, b: u8, room: &mut [u8]) -> Hex
     ensures { record { hex = result; room = room.new }
         ≡ taken_byte b (record { hex = h; room = room.old }) }
 {
-    let d = meaning_of(b);
-    if d == 16 {
-        return h;
-    }
-    if d == 17 {
-        return Hex {
-            good: false,
-            half: h.half,
-            high: h.high,
-            len: h.len,
-        };
-    }
-    if !h.half {
-        return Hex {
-            good: h.good,
-            half: true,
-            high: d,
-            len: h.len,
-        };
-    }
-    let at = h.len;
-    let next = stored(room, at, h.high % 16 * 16 + d);
-    Hex {
-        good: h.good,
-        half: false,
-        high: 0,
-        len: next,
+    match (meaning_of(b), h.high) {
+        (Meaning::White, _) => h,
+        (Meaning::Other, _) => Hex { good: false, ..h },
+        (Meaning::Digit(high), None) => Hex {
+            high: Some(high),
+            ..h
+        },
+        (Meaning::Digit(low), Some(high)) => Hex {
+            high: None,
+            len: stored(room, h.len, high % 16 * 16 + low),
+            ..h
+        },
     }
 }
 
-// Stores a byte where there is room for it, and answers where the next one goes.
+// Stores a byte where there is room for it, and answers where the next one goes. By index: through `get_mut` the proof
+// of what the room holds then did not close.
 fn stored(room: &mut [u8], at: usize, b: u8) -> usize
     ensures { (result ≡ cond (ltb at (length room.old)) (at + 1) at)
         × (room.new ≡ set room.old at b) }
 {
     if at < room.len() {
         room[at] = b;
-        return at + 1;
+        at + 1
+    } else {
+        at
     }
-    at
 }
 
-// A digit's value, 16 for white space and 17 for anything else.
-fn meaning_of(b: u8) -> u8
-    ensures { (result ≡ meaning b) × (result ≤ 17) }
+#[tactic(auto, unfolding(crate::specs::Hex::meaning))]
+fn meaning_of(b: u8) -> Meaning
+    ensures { result ≡ meaning b }
 {
-    if b < 48 {
-        return white_of(b);
+    match b {
+        b'\t' | b'\n' | b'\r' | b' ' => Meaning::White,
+        b'0'..=b'9' => Meaning::Digit(b - b'0'),
+        b'A'..=b'F' => Meaning::Digit(b - b'A' + 10),
+        b'a'..=b'f' => Meaning::Digit(b - b'a' + 10),
+        _ => Meaning::Other,
     }
-    if b < 58 {
-        return b - 48;
-    }
-    if b < 65 {
-        return 17;
-    }
-    if b < 71 {
-        return b - 55;
-    }
-    if b < 97 {
-        return 17;
-    }
-    if b < 103 {
-        return b - 87;
-    }
-    17
-}
-
-fn white_of(b: u8) -> u8
-    ensures { (result ≡ white b) × (result ≤ 17) }
-{
-    if b == 9 {
-        return 16;
-    }
-    if b == 10 {
-        return 16;
-    }
-    if b == 13 {
-        return 16;
-    }
-    if b == 32 {
-        return 16;
-    }
-    17
 }
 
 // The digit of a value below 16.
+#[tactic(auto, unfolding(crate::specs::Hex::glyph))]
 fn glyph_of(d: u8) -> u8
     requires { d < 16 }
     ensures { result ≡ glyph d }
 {
-    if d < 10 { d + 48 } else { d + 87 }
+    if d < 10 { b'0' + d } else { b'a' + (d - 10) }
 }

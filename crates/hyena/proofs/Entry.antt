@@ -15,7 +15,10 @@ use Rattle.words.proofs.Blocks.{value-halves, value-is, value-lt, loaded-all, st
 use Rattle.words.proofs.Bytes.{number-bytes, length-bytes}
 use Rattle.words.proofs.Over.{length_over, over-over, sets-front}
 use Rattle.answers.specs.Answers.{Answer, answered, number_of}
-use Rattle.answers.proofs.Answers.{Clear, refuse-clear, answer-done, answer-has, judged-refused, judged-clear}
+use Rattle.answers.proofs.Answers.{Clear, refuse-clear, answer-done, answer-has, handed-on, goes-on}
+use Rattle.answers.specs.declared.Refusal.{Refusal}
+use Rattle.answers.specs.Told.{told}
+use Rattle.std.specs.Prelude.{Result, IsErr}
 use Rattle.gift.specs.Gift.{encipher}
 use Rattle.gift.proofs.Entry.{enciphers-is}
 use Rattle.mode.specs.Hyena as mode
@@ -88,27 +91,28 @@ allowed i tag room (key, (nonce, («data», (text, (tag', (room', none)))))) =
       room_fits = ltb-false _ _ room';
     }
 
--- ---- the lengths as the code judges them: n, of what it works on, and r, the number that they call for
+-- ---- the lengths as the code judges them: n, of what it works on, and r, what it answers
 
-abbrev weighed : Inputs → List ℕ → List ℕ → ℕ → ℕ
+abbrev pub weighed : Inputs → List ℕ → List ℕ → ℕ → ℕ
 weighed i tag room n =
     number_of (rows (length i.key) (length i.nonce) (length i.«data») n (length tag) (length room))
 
-module _ (i : Inputs) (tag room : List ℕ) {n r : ℕ} (en : n ≡ length i.text) (er : r ≡ weighed i tag room n) where
-  judged : r ≡ number_of (refusals i tag room)
-  judged = er ∙ ap (weighed i tag room) en
+module _ (i : Inputs) (tag room : List ℕ) {n : ℕ} (en : n ≡ length i.text) where
+  judged : {r : ℕ} → r ≡ weighed i tag room n → r ≡ number_of (refusals i tag room)
+  judged er = er ∙ ap (weighed i tag room) en
 
-  pub not-refused : r ≡ 0 → Allowed i tag room
-  not-refused e = allowed i tag room (judged-clear (refusals i tag room) judged tt e)
+  pub not-refused : 0 ≡ weighed i tag room n → Allowed i tag room
+  not-refused er = allowed i tag room (goes-on (refusals i tag room) (judged er) tt)
 
-  module _ (cipher : List ℕ → ℕ → ℕ) (refused : r ≡ 0 → ⊥) where
-    pub seal-refused : Sealing cipher r i room tag room tag
+  module _ (cipher : List ℕ → ℕ → ℕ) {A : Type 0} (r : Result A Refusal) (er : told r ≡ weighed i tag room n)
+      (is : IsErr r) where
+    pub seal-refused : Sealing cipher (told r) i room tag room tag
     unfolding sealing
-    seal-refused = judged-refused (refusals i tag room) judged _ _ refused
+    seal-refused = handed-on r (refusals i tag room) (judged er) is _ _
 
-    pub open-refused : Opening cipher r i tag room room
+    pub open-refused : Opening cipher (told r) i tag room room
     unfolding opening
-    open-refused = judged-refused (refusals i tag room) judged _ _ refused
+    open-refused = handed-on r (refusals i tag room) (judged er) is _ _
 
 -- ---- the entry points, over any cipher
 

@@ -1,22 +1,21 @@
 -- What the loops over data and text make, from what each of their steps ensures.
 use mathlib.Core.Path.{◌≡◌, refl, sym, ap, ap₂, subst, ◌∙◌}
-use mathlib.Core.Bool.{Bool, true, false, cond}
-use mathlib.Core.List.{List, [], ◌∷◌}
+use mathlib.Core.Bool.{Bool, cond}
+use mathlib.Core.List.{List, []}
 use Prim.Native.Nat.{ℕ, ◌+◌, ◌-◌, ◌*◌, ◌/◌, ◌^◌, ◌≤◌, ◌<◌}
 use native.Mathlib.Omega.{arith}
 use lib.Bits.{bit_xor}
 use lib.Dec.{eqb}
-use lib.ListN.{length, take, drop, set, replicate, length-replicate, replicate-append-replicate}
+use lib.ListN.{length, take, drop}
 use lib.Seq.{sets, take_all}
 use borrow.Author.Tests.{eq-eqb, ne_eqb}
 use Rattle.words.specs.declared.Block.{Block}
 use Rattle.words.specs.Block.{value, halves, part, loaded, stored}
-use Rattle.words.specs.Bytes.{Bytes, bytes, over}
+use Rattle.words.specs.Bytes.{Bytes, bytes}
 use Rattle.words.specs.Iterate.{iterate}
 use Rattle.words.proofs.Blocks.{value-halves, value-is, loaded-back}
 use Rattle.words.proofs.Bytes.{length-bytes}
 use Rattle.words.proofs.Lists.{sets-append, drop-sets}
-use Rattle.words.proofs.Over.{over-next}
 use Rattle.words.proofs.Iterate.{iterate-next}
 use Rattle.mode.specs.Hyena as mode
 use Rattle.mode.specs.Hyena.{before, block_at, last, full, walk, output, data_each, data_at, data_last, after_data}
@@ -27,6 +26,9 @@ use Rattle.hyena_blocks.specs.declared.StateY.{StateY}
 use Rattle.hyena_blocks.specs.declared.StateX.{StateX}
 use Rattle.hyena_blocks.specs.Steps.{low, held_y, held_x, read_y, read_x}
 use Rattle.hyena_blocks.proofs.Steps.{low-xor, read_y-held, held-read_x}
+use Rattle.std.specs.Prelude.{Option, Some, None}
+use Rattle.std.specs.Option.{unwrap_or}
+use Rattle.std.specs.Borrow.{Bor}
 use Rattle.hyena.specs.Source.{source}
 
 -- ---- associated data
@@ -91,22 +93,17 @@ module _ (E : ℕ → ℕ) (opening : Bool) (s : List ℕ) (h : Bytes s) where
             ∙ ap (λ l. output l (E (value t.x))) p),
       )
 
--- the bytes of the text that is worked on
-pub source-bytes : (inPlace : Bool) (text room : List ℕ) → Bytes text → Bytes room → Bytes (source inPlace text room)
-source-bytes true text room t r = r
-source-bytes false text room t r = t
-
--- room keeps its length, and so does that text
-pub source-length : (inPlace : Bool) (text room₀ room : List ℕ) → length room ≡ length room₀
-    → length (source inPlace text room) ≡ length (source inPlace text room₀)
-source-length true text room₀ room e = e
-source-length false text room₀ room e = refl
+-- what the code takes for the text that is worked on
+pub taken : (text : Option (Bor (List ℕ))) (room : Bor (List ℕ)) {r : Bor (List ℕ)} → r ≡ unwrap_or text room
+    → r.now ≡ source text room.now
+taken None room e = ap (λ (b : Bor (List ℕ)). b.now) e
+taken (Some text) room e = ap (λ (b : Bor (List ℕ)). b.now) e
 
 -- in place, what comes behind the output is as it was
-behind-output : (inPlace : Bool) (text room₀ out : List ℕ) (at n : ℕ) {room : List ℕ} → room ≡ sets room₀ 0 out
-    → length out ≤ at → part (source inPlace text room) at n ≡ part (source inPlace text room₀) at n
-behind-output true text room₀ out at n e h = ap (take n) (ap (drop at) e ∙ drop-sets room₀ 0 out at (omega arith))
-behind-output false text room₀ out at n e h = refl
+behind-output : (text : Option (Bor (List ℕ))) (room₀ out : List ℕ) (at n : ℕ) {room : List ℕ} → room ≡ sets room₀ 0 out
+    → length out ≤ at → part (source text room) at n ≡ part (source text room₀) at n
+behind-output None room₀ out at n e h = ap (take n) (ap (drop at) e ∙ drop-sets room₀ 0 out at (omega arith))
+behind-output (Some text) room₀ out at n e h = refl
 
 -- a block d that comes behind the output is held with it
 block_held : (E : ℕ → ℕ) (opening : Bool) (room₀ : List ℕ) (t : mode.StateX) (k at : ℕ) (d : List ℕ) {u v : StateX}
@@ -125,29 +122,30 @@ block_held E opening room₀ t k at d {u} {v} {room} lo held ev er =
           ∙ sets-append room₀ 0 t.out o,
     )
 
-module _ (E : ℕ → ℕ) (opening inPlace : Bool) (text room₀ : List ℕ) (t : mode.StateX) (none : t.out ≡ []) where
+module _ (E : ℕ → ℕ) (opening : Bool) (text : Option (Bor (List ℕ))) (room₀ : List ℕ) (t : mode.StateX)
+    (none : t.out ≡ []) where
   -- the text that is worked on, as it was at first
   abbrev s : List ℕ
-  s = source inPlace text room₀
+  s = source text room₀
 
   -- the block that is read next, of n bytes from at on, lies behind the output, and so is the text's
   block-next : (n k : ℕ) {i at : ℕ} {u v : StateX} {room room' : List ℕ} → i ≤ before s → at ≡ 16 * i
       → Held (text_at E opening s t i) room₀ u room
-      → v ≡ held_x (text_block E opening k (read_x u) (part (source inPlace text room) at n))
-      → room' ≡ sets room at (output (part (source inPlace text room) at n) (E (value u.x)))
+      → v ≡ held_x (text_block E opening k (read_x u) (part (source text room) at n))
+      → room' ≡ sets room at (output (part (source text room) at n) (E (value u.x)))
       → Held (text_block E opening k (text_at E opening s t i) (part s at n)) room₀ v room'
   block-next n k {i} {at} {u} {v} {room} h ea held ev er =
       let lo : length (text_at E opening s t i).out ≡ at = length_at E opening t none s i h ∙ sym ea in
-      let d : part (source inPlace text room) at n ≡ part s at n =
-      behind-output inPlace text room₀ (text_at E opening s t i).out at n held.1 (omega arith) in
+      let d : part (source text room) at n ≡ part s at n =
+      behind-output text room₀ (text_at E opening s t i).out at n held.1 (omega arith) in
       block_held E opening room₀ (text_at E opening s t i) k at (part s at n) lo held
       (ev ∙ ap (λ l. held_x (text_block E opening k (read_x u) l)) d)
       (er ∙ ap (λ l. sets room at (output l (E (value u.x)))) d)
 
   pub text-next : (i : ℕ) {u v : StateX} {room room' : List ℕ} → i < before s
       → Held (text_at E opening s t i) room₀ u room
-      → v ≡ held_x (text_block E opening 1 (read_x u) (part (source inPlace text room) (16 * i) 16))
-      → room' ≡ sets room (16 * i) (output (part (source inPlace text room) (16 * i) 16) (E (value u.x)))
+      → v ≡ held_x (text_block E opening 1 (read_x u) (part (source text room) (16 * i) 16))
+      → room' ≡ sets room (16 * i) (output (part (source text room) (16 * i) 16) (E (value u.x)))
       → Held (text_at E opening s t (i + 1)) room₀ v room'
   text-next i {u} {v} {room} {room'} l held ev er =
       subst (λ z. Held z room₀ v room') (iterate-next (λ j w. text_block E opening 1 w (block_at s j)) i t refl refl)
@@ -158,9 +156,9 @@ module _ (E : ℕ → ℕ) (opening inPlace : Bool) (text room₀ : List ℕ) (t
       → i ≡ (len - 1) / 16 → Held (text_at E opening s t i) room₀ u room
       → k ≡ cond (eqb (len - 16 * ((len - 1) / 16)) 16) 2 3
       → v ≡ held_x (text_block E opening k (read_x u)
-      (part (source inPlace text room) (16 * ((len - 1) / 16)) (len - 16 * ((len - 1) / 16))))
+      (part (source text room) (16 * ((len - 1) / 16)) (len - 16 * ((len - 1) / 16))))
       → room' ≡ sets room (16 * ((len - 1) / 16)) (output
-      (part (source inPlace text room) (16 * ((len - 1) / 16)) (len - 16 * ((len - 1) / 16))) (E (value u.x)))
+      (part (source text room) (16 * ((len - 1) / 16)) (len - 16 * ((len - 1) / 16))) (E (value u.x)))
       → Held (after_text E opening t s) room₀ v room'
   text-end len i {k} {u} {v} {room} {room'} es some ei held ek ev er =
       let n = len - 16 * ((len - 1) / 16) in
@@ -183,12 +181,3 @@ module _ (E : ℕ → ℕ) (opening : Bool) (t : StateX) (s room : List ℕ) (h 
 
   pub text-empty : length s ≡ 0 → Held (after_text E opening (read_x t) s) room t room
   text-empty e = subst (λ z. Held z room t room) (sym (text-none E opening (read_x t) s e)) (held-read_x t h, refl)
-
--- ---- the wiping
-
-pub wipe-next : (room₀ room : List ℕ) (i : ℕ) → i < length room₀ → room ≡ over (replicate i 0) room₀
-    → set room i 0 ≡ over (replicate (i + 1) 0) room₀
-wipe-next room₀ room i h e =
-    let l : length {A = ℕ} (replicate i 0) ≡ i = length-replicate i 0 in
-    ap₂ (λ (r : List ℕ) (j : ℕ). sets r j (0 ∷ [])) e (sym l) ∙ over-next (replicate i 0) (0 ∷ []) room₀ (omega arith)
-    ∙ ap (λ (z : List ℕ). over z room₀) (replicate-append-replicate i 1 0)

@@ -1,4 +1,6 @@
 // HyENA block by block, over a block cipher with its key. States go in and come back by value, and nothing is refused.
+// Whether it opens is a `bool`, as the definition takes it. A block stands beside the number of its bytes that count,
+// since the document cuts and pads a block of any content.
 #![tactic(auto)]
 
 ghost use Rattle.std.specs.Prelude.{cond, ◌≡◌, ◌<◌, eqb};
@@ -19,7 +21,8 @@ pub struct StateY {
     pub mask: u64,
 }
 
-// The new state X, and the mask that the block was fed with.
+// The new state X, and the mask that the block was fed with. It is no StateY, so that what is still to be enciphered is
+// not fed.
 #[derive(Clone, Copy)]
 pub struct StateX {
     pub x: Block,
@@ -47,7 +50,7 @@ pub fn start(e: Keyed, nonce: &[u8], data: usize, text: usize) -> StateY
         },
     );
     StateY {
-        y: y,
+        y,
         mask: double_of(y.lo),
     }
 }
@@ -56,13 +59,11 @@ pub fn start(e: Keyed, nonce: &[u8], data: usize, text: usize) -> StateY
 fn marks(data: usize, text: usize) -> u64
     ensures { (result ≡ cond (eqb «data» 0) (cond (eqb text 0) 3 1) 0) × (result < 4) }
 {
-    if data != 0 {
-        return 0;
+    match (data, text) {
+        (0, 0) => 3,
+        (0, _) => 1,
+        _ => 0,
     }
-    if text != 0 {
-        return 1;
-    }
-    3
 }
 
 // The next state Y after a block of associated data that is not the last.
@@ -83,7 +84,7 @@ pub fn data_last(b: StateY, k: u64, d: Block, n: usize) -> StateX
     let mask = doubled(k, b.mask);
     StateX {
         x: feedback(false, b.y, mask, d, n),
-        mask: mask,
+        mask,
     }
 }
 
@@ -96,9 +97,9 @@ pub fn text_block(opening: bool, e: Keyed, t: StateX, k: u64, d: Block, n: usize
     Fed {
         state: StateX {
             x: feedback(opening, y, mask, d, n),
-            mask: mask,
+            mask,
         },
-        out: words::xor(d, y),
+        out: d ^ y,
     }
 }
 
@@ -114,29 +115,22 @@ pub fn tag_of(e: Keyed, t: StateX) -> Block
 fn feedback(opening: bool, y: Block, mask: u64, d: Block, n: usize) -> Block
     ensures { result ≡ halves (feed opening (value y) mask (low n (value d))) }
 {
-    let o = words::xor(d, y);
-    let m = padded(either(opening, o, d), n);
-    let c = padded(either(opening, d, o), n);
-    words::xor(
-        y,
-        Block {
-            lo: c.lo ^ mask,
-            hi: m.hi,
-        },
-    )
-}
-
-fn either(first: bool, a: Block, b: Block) -> Block
-    ensures { result ≡ cond first a b }
-{
-    if first { a } else { b }
+    let sum = d ^ y;
+    let text_side = if opening { sum } else { d };
+    let cipher_side = if opening { d } else { sum };
+    let m = padded(text_side, n);
+    let c = padded(cipher_side, n);
+    y ^ Block {
+        lo: c.lo ^ mask,
+        hi: m.hi,
+    }
 }
 
 // Pad of the first n bytes of x.
 fn padded(x: Block, n: usize) -> Block
     ensures { result ≡ halves (number (pad (low n (value x)))) }
 {
-    let mut s = [0u8; 16];
+    let mut s = [0u8; 16]; // an array: its length is fixed, and the archive has no heap
     words::store(&mut s, 0, n, x);
     words::load_pad(&s, 0, n)
 }
@@ -145,10 +139,8 @@ fn doubled(k: u64, mask: u64) -> u64
     ensures { result ≡ doubles k mask }
 {
     let mut x = mask;
-    let mut i = 0;
-    while i < k {
+    for _ in 0..k {
         x = double_of(x);
-        i += 1;
     }
     x
 }

@@ -1,62 +1,22 @@
--- The loops over a list of lengths, from the first that is left; and the texts that it cuts.
+-- A list of lengths: what is left of it as its texts are gone over, its limit, and the texts that it cuts.
 use mathlib.Core.Path.{◌≡◌, refl, sym, ap, subst⁻¹, ◌∙◌}
 use mathlib.Core.Bool.{Bool, true, false, ◌||◌, true≢false}
 use mathlib.Core.List.{List, [], ◌∷◌}
-use Prim.Native.Nat.{ℕ, zero, suc, ◌+◌, ◌-◌, ◌≤◌, ◌<◌}
+use Prim.Native.Nat.{ℕ, zero, suc, ◌+◌, ◌≤◌, ◌<◌}
 use native.Mathlib.Numerals.{add-one}
 use native.Mathlib.Omega.{arith}
-use borrow.Author.Tests.{ne_eqb, lt-ltb, le-ltb, ltb-false}
-use lib.Dec.{eqb, ltb}
-use lib.ListN.{length, get_or, take, drop, length-drop, drop_of_length-le}
+use borrow.Author.Tests.{ltb-false}
+use lib.Dec.{ltb}
+use Rattle.std.specs.List.{list_any}
+use lib.ListN.{length, get_or, take, drop, length-drop}
 use lib.Seq.{drop-cons, drop-drop, length-take-le}
-use Rattle.words.proofs.Tests.{agree}
 use Rattle.lengths.specs.Lengths.{total, any_above, text_at}
 
-module _ (s : List ℕ) (i : ℕ) (h : i < length s) where
-  total-next : total (drop i s) ≡ get_or s i 0 + total (drop (i + 1) s)
-  unfolding total
-  total-next = rw (drop-cons s i 0 h, add-one)
-
-  above-next : (most : ℕ) → any_above most (drop i s) ≡ (ltb most (get_or s i 0) || any_above most (drop (i + 1) s))
-  unfolding any_above
-  above-next most = rw (drop-cons s i 0 h, add-one)
-
-  -- the next text ends where those behind it start, and lies within the whole
-  module _ (at : ℕ) {whole : ℕ} (inv : at + total (drop i s) ≡ whole) where
-    pub next-starts : at + get_or s i 0 + total (drop (i + 1) s) ≡ whole
-    next-starts = omega (arith, total-next)
-
-    pub next_fits : at + get_or s i 0 ≤ whole
-    next_fits = omega (arith, total-next)
-
-  module _ (left : ℕ) {u : Bool} (inv : eqb (total (drop i s)) left ≡ u) where
-    pub too_long : left < get_or s i 0 → false ≡ u
-    too_long l = sym (ne_eqb (total (drop i s)) left (λ e. omega (arith, total-next))) ∙ inv
-
-    pub taken-off : get_or s i 0 ≤ left → eqb (total (drop (i + 1) s)) (left - get_or s i 0) ≡ u
-    taken-off l =
-        agree (total (drop (i + 1) s)) (left - get_or s i 0) (total (drop i s)) left
-        (λ e. omega (arith, total-next)) (λ e. omega (arith, total-next))
-        ∙ inv
-
-  module _ (most : ℕ) {u : Bool} (inv : any_above most (drop i s) ≡ u) where
-    pub one-above : most < get_or s i 0 → true ≡ u
-    one-above l = sym (above-next most ∙ rw (lt-ltb most (get_or s i 0) l)) ∙ inv
-
-    pub not-above : get_or s i 0 ≤ most → any_above most (drop (i + 1) s) ≡ u
-    not-above l = sym (above-next most ∙ rw (le-ltb most (get_or s i 0) l)) ∙ inv
-
-module _ (s : List ℕ) (i : ℕ) (h : length s ≤ i) where
-  pub all-taken-off : (left : ℕ) {u : Bool} → eqb (total (drop i s)) left ≡ u → eqb left 0 ≡ u
-  unfolding total
-  all-taken-off left inv =
-      agree left 0 (total (drop i s)) left (λ e. rw (drop_of_length-le s {i = i} h) (sym e))
-      (λ e. sym (rw (drop_of_length-le s {i = i} h) at e))
-      ∙ inv
-
-  pub none_above : (most : ℕ) {u : Bool} → any_above most (drop i s) ≡ u → false ≡ u
-  unfolding any_above
-  none_above most inv = rw (drop_of_length-le s {i = i} h) at inv
+-- whether any is above a limit, in the library's word
+pub any_above-is : (most : ℕ) (ns : List ℕ) → list_any (λ n. ltb most n) ns ≡ any_above most ns
+unfolding any_above
+any_above-is most [] = refl
+any_above-is most (n ∷ ns) = rw (any_above-is most ns)
 
 -- where none is above, the first is not, nor is any behind it
 pub none_of : (most n : ℕ) (ns : List ℕ) → any_above most (n ∷ ns) ≡ false → (n ≤ most) × (any_above most ns ≡ false)
@@ -66,6 +26,23 @@ none_of most n ns e = by (ltb most n) refl e
     by : (t : Bool) → ltb most n ≡ t → (t || any_above most ns) ≡ false → (n ≤ most) × (any_above most ns ≡ false)
     by true et f = absurd (true≢false f)
     by false et f = (ltb-false most n et, f)
+
+module _ (s : List ℕ) (i : ℕ) (h : i < length s) where
+  total-next : total (drop i s) ≡ get_or s i 0 + total (drop (i + 1) s)
+  unfolding total
+  total-next = rw (drop-cons s i 0 h, add-one)
+
+  -- the next text ends where those behind it start, and lies within the whole
+  module _ (at : ℕ) {whole : ℕ} (inv : at + total (drop i s) ≡ whole) where
+    pub next-starts : at + get_or s i 0 + total (drop (i + 1) s) ≡ whole
+    next-starts = omega (arith, total-next)
+
+    pub next_fits : at + get_or s i 0 ≤ whole
+    next_fits = omega (arith, total-next)
+
+  pub none-next : (most : ℕ) → any_above most (drop i s) ≡ false
+      → (get_or s i 0 ≤ most) × (any_above most (drop (i + 1) s) ≡ false)
+  none-next most e = rw (add-one i) (none_of most (get_or s i 0) (drop (suc i) s) (rw (drop-cons s i 0 h) at e))
 
 -- ---- the texts of a list of lengths
 

@@ -8,28 +8,15 @@ ghost use Rattle.lengths.specs.Lengths.{total, any_above};
 pub fn add_up(lengths: &[u64], whole: u64) -> bool
     ensures { result ≡ eqb (total lengths.now) whole }
 {
-    let mut left = whole;
-    let mut i = 0;
-    while i < lengths.len() {
-        if lengths[i] > left {
-            return false;
-        }
-        left -= lengths[i];
-        i += 1;
-    }
-    left == 0
+    lengths
+        .iter()
+        .try_fold(whole, |left, n| left.checked_sub(*n))
+        == Some(0)
 }
 
 // Whether any of the lengths is above a limit.
 pub fn any_above(lengths: &[u64], most: u64) -> bool
     ensures { result ≡ any_above most lengths.now }
 {
-    let mut i = 0;
-    while i < lengths.len() {
-        if lengths[i] > most {
-            return true;
-        }
-        i += 1;
-    }
-    false
+    lengths.iter().any(|n| *n > most)
 }

@@ -9,28 +9,33 @@ use lib.Dec.{ltb}
 use lib.ListN.{length, get_or, get_or-eq_default}
 use Rattle.words.specs.Block.{part}
 use Rattle.answers.specs.Answers.{number_of}
+use Rattle.pack.specs.Pack.{Answer, Shuffle, Done, Refused, BadShuffle}
 use Rattle.pack.specs.Pack.{Reading, ends, gives, answer_at, first_bad, words, songs, card_of, number_at, item_rows}
 use Rattle.pack.specs.Pack.{item, many, counted, after_last, shuffle, reading, card_at}
 use Rattle.pack.specs.Reader.{told_of, is_card, read_at, judged}
 use Rattle.pack.specs.Demands.{start_of, end_of}
+use Rattle.std.specs.Prelude.{Some, Ok, Err}
 use Rattle.pack.specs.declared.Card.{Card}
-use Rattle.pack.specs.declared.Card.TheVariants.{Shuffle, Done, Refused, BadShuffle}
+use Rattle.pack.specs.Reader.{Moved, Moves, said_bad, said, verdict}
+use Rattle.pack.specs.declared.Bad.{Bad}
+use Rattle.pack.specs.declared.Reader.{Reader}
+use Rattle.pack.specs.declared.Kind.{Kind}
 use Rattle.pack.specs.declared.items.Shape.{Shape}
-use Rattle.pack.specs.declared.Read.{Read}
+use Rattle.pack.specs.Reader.{Read}
 use Rattle.pack.proofs.Steps.{item-goes, item-ends, item-whole, item-least, item-most}
 
 -- ---- cards that lie one behind the other, from a place on
 
-abbrev pub Lie : ℕ → List Card → ℕ → Type 0
+abbrev pub Lie : ℕ → List Answer → ℕ → Type 0
 Lie from [] to = from ≤ to
 Lie from (c ∷ cs) to = (is_card c ≡ true) × (from ≤ start_of c) × (start_of c < end_of c) × Lie (end_of c) cs to
 
-lie-sooner : (a b : ℕ) (cs : List Card) (to : ℕ) → a ≤ b → Lie b cs to → Lie a cs to
+lie-sooner : (a b : ℕ) (cs : List Answer) (to : ℕ) → a ≤ b → Lie b cs to → Lie a cs to
 lie-sooner a b [] to h l = omega arith
 lie-sooner a b (c ∷ cs) to h l = (l.0, omega (arith, l.1), l.2, l.3)
 
 -- what is no card, and is done if its number is 0
-abbrev pub Ends : Card → Type 0
+abbrev pub Ends : Answer → Type 0
 Ends c = (is_card c ≡ false) × ((told_of c 0).number ≡ 0 → c ≡ Done)
 
 refused-ends : (r : ℕ) → (r ≡ 0 → ⊥) → Ends (Refused r)
@@ -56,7 +61,7 @@ module _ (s : List ℕ) where
   sooner m n a b r hm h d =
       record { lie = lie-sooner a b r.cards (length s) h d.lie; few = omega (arith, d.few); ended = d.ended }
 
-  ends-sound : (n at : ℕ) (c : Card) → at ≤ length s → Ends c → Sound s n at (ends c)
+  ends-sound : (n at : ℕ) (c : Answer) → at ≤ length s → Ends c → Sound s n at (ends c)
   ends-sound n at c h e = record { lie = h; few = omega arith; ended = e }
 
   refused-sound : (n at r : ℕ) → at ≤ length s → (r ≡ 0 → ⊥) → Sound s n at (ends (Refused r))
@@ -86,20 +91,23 @@ module _ (s : List ℕ) where
       by (suc r) e = subst⁻¹ P (item-ends s at width counts least most e (λ z. omega arith) f) (ended (suc r)
           (λ z. omega arith))
 
-  card-start : (song : Bool) (a n : ℕ) → start_of (card_of song a n) ≡ a
+  card-start : (kind : Kind) (a n : ℕ) → start_of (card_of kind a n) ≡ a
   unfolding told_of
-  card-start true a n = refl
-  card-start false a n = refl
+  card-start Kind.Word a n = refl
+  card-start Kind.Song a n = refl
+  card-start Kind.Shuffle a n = refl
 
-  card-end : (song : Bool) (a n : ℕ) → end_of (card_of song a n) ≡ a + n
+  card-end : (kind : Kind) (a n : ℕ) → end_of (card_of kind a n) ≡ a + n
   unfolding told_of
-  card-end true a n = refl
-  card-end false a n = refl
+  card-end Kind.Word a n = refl
+  card-end Kind.Song a n = refl
+  card-end Kind.Shuffle a n = refl
 
-  card-is : (song : Bool) (a n : ℕ) → is_card (card_of song a n) ≡ true
+  pub card-is : (kind : Kind) (a n : ℕ) → is_card (card_of kind a n) ≡ true
   unfolding is_card
-  card-is true a n = refl
-  card-is false a n = refl
+  card-is Kind.Word a n = refl
+  card-is Kind.Song a n = refl
+  card-is Kind.Shuffle a n = refl
 
   many-sound : (k : Shape) (m n at : ℕ) (f : ℕ → Reading) → at ≤ length s
       → ((at' : ℕ) → at' ≤ length s → Sound s m at' (f at')) → Sound s (n + m) at (many s k n at f)
@@ -110,18 +118,18 @@ module _ (s : List ℕ) where
       (λ r. refused-sound (suc n + m) at r h)
       (λ a.
       let l = number_at s at k.width in
-      let c = card_of k.song (at + k.width) l in
+      let c = card_of k.kind (at + k.width) l in
       let rest = many-sound k m n (at + k.width + l) f a.fits d in
-      let from : at ≤ start_of c = omega (arith, card-start k.song (at + k.width) l) in
+      let from : at ≤ start_of c = omega (arith, card-start k.kind (at + k.width) l) in
       let some : start_of c < end_of c =
-      omega (arith, card-start k.song (at + k.width) l, card-end k.song (at + k.width) l, a.least-is) in
+      omega (arith, card-start k.kind (at + k.width) l, card-end k.kind (at + k.width) l, a.least-is) in
       record {
         lie = (
-          card-is k.song (at + k.width) l,
+          card-is k.kind (at + k.width) l,
           from,
           some,
           lie-sooner (end_of c) (at + k.width + l) (many s k n (at + k.width + l) f).cards (length s) (omega
-              (arith, card-end k.song (at + k.width) l))
+              (arith, card-end k.kind (at + k.width) l))
               rest.lie,
         );
         few = omega (arith, rest.few);
@@ -187,7 +195,7 @@ module _ (r : Reading) where
         | no h ↦ omega arith
       ]
 
-card-in : (from : ℕ) (cs : List Card) (to : ℕ) (e : Card) (p : ℕ) → Lie from cs to → p < length cs
+card-in : (from : ℕ) (cs : List Answer) (to : ℕ) (e : Answer) (p : ℕ) → Lie from cs to → p < length cs
     → is_card (get_or cs p e) ≡ true
 card-in from [] to e p l h = absurd (omega arith)
 card-in from (c ∷ cs) to e zero l h = l.0
@@ -213,11 +221,11 @@ module _ (s : List ℕ) (p : ℕ) where
   unfolding card_at
   end_is e = past (reading s) p (end-place e)
 
-  pub read-card : {c : Card} → c ≡ card_at s p → is_card c ≡ true → record { card = c; next = p + 1 } ≡ read_at s p
+  pub read-card : {c : Answer} → c ≡ card_at s p → is_card c ≡ true → record { card = c; next = p + 1 } ≡ read_at s p
   unfolding read_at
   read-card ec e = rw (sym ec, e) refl
 
-  pub read-end : {c : Card} → c ≡ card_at s p → is_card c ≡ false → record { card = c; next = p } ≡ read_at s p
+  pub read-end : {c : Answer} → c ≡ card_at s p → is_card c ≡ false → record { card = c; next = p } ≡ read_at s p
   unfolding read_at
   read-end ec e = rw (sym ec, e) refl
 
@@ -231,7 +239,7 @@ module _ (s : List ℕ) (p : ℕ) where
   read_next e is = ap (λ (r : Read). r.next) e ∙ rw (sym (ap is_card (read_is e)) ∙ is) refl
 
   -- where a walk that has passed all cards before p ends
-  pub judged-is : p ≤ length (reading s).cards → {c : Card} {number bad : ℕ} → c ≡ card_at s p → is_card c ≡ false
+  pub judged-is : p ≤ length (reading s).cards → {c : Answer} {number bad : ℕ} → c ≡ card_at s p → is_card c ≡ false
       → number ≡ (told_of c 0).number → bad ≡ (told_of c 0).bad
       → record { number = number; cards = p; bad = bad } ≡ judged s
   unfolding judged
@@ -243,3 +251,40 @@ module _ (s : List ℕ) (p : ℕ) where
         cards = n;
         bad = (told_of (reading s).ending 0).bad;
       }) k)
+
+-- ---- what the code answers, in the document's words
+
+pub card-said : (c : Card) → is_card (said (Ok (Some c))) ≡ true
+card-said c = card-is [] c.kind c.start c.length
+
+-- what is wrong is no card
+pub bad-is : (bad : Bad) → is_card (said_bad bad) ≡ false
+unfolding is_card
+bad-is Bad.CutShort = refl
+bad-is Bad.CountOrLength = refl
+bad-is (Bad.BadShuffle entry) = refl
+bad-is Bad.LeftOver = refl
+
+pub done-is : is_card Done ≡ false
+unfolding is_card
+done-is = refl
+
+module _ (r : Reader) {c : Answer} (ec : c ≡ card_at r.pack.now r.place) where
+  -- the reader with its place after the answer
+  abbrev after : Read → Moved
+  after t = record { card = t.card; reader = record { pack = r.pack; place = t.next } }
+
+  pub moves_on : is_card c ≡ true → Moves c r (record { pack = r.pack; place = r.place + 1 })
+  moves_on e = ap after (read-card r.pack.now r.place ec e)
+
+  pub stays : is_card c ≡ false → Moves c r r
+  stays e = ap after (read-end r.pack.now r.place ec e)
+
+module _ (s : List ℕ) (p : ℕ) (h : p ≤ length (reading s).cards) where
+  pub verdict-done : Done ≡ card_at s p → verdict (Ok p) ≡ judged s
+  unfolding told_of
+  verdict-done e = judged-is s p h e done-is refl refl
+
+  pub verdict-bad : (bad : Bad) → said_bad bad ≡ card_at s p
+      → verdict (Err (record { cards = p; why = bad })) ≡ judged s
+  verdict-bad bad e = judged-is s p h e (bad-is bad) refl refl

@@ -6,31 +6,30 @@ use Prim.Native.Nat.{ℕ, zero, suc, ◌+◌, ◌<◌, ◌≤◌, min}
 use native.Mathlib.Decide.{dec_le}
 use native.Mathlib.Omega.{arith}
 use lib.ListN.{length, get_or}
+use Rattle.pack.specs.Pack.{Answer, Done}
 use Rattle.pack.specs.Pack.{answer_at, reading, card_at}
 use Rattle.pack.specs.Reader.{told_of, is_card, read_at, judged}
 use Rattle.pack.specs.Demands.{start_of, end_of, ended as told-ended, Demands}
-use Rattle.pack.specs.declared.Card.{Card}
 use Rattle.pack.proofs.Cards.{Lie, sound, past, card-place, card-before, end-place, end_is}
 use Rattle.words.specs.Iterate.{iterate}
-use Rattle.pack.specs.declared.Card.TheVariants.{Done}
 use Rattle.pack.proofs.Told.{end-told}
 use Rattle.pack.proofs.Whole.{whole}
 
 -- ---- cards that lie one behind the other
 
-lie-at : (from : ℕ) (cs : List Card) (to : ℕ) (e : Card) (p : ℕ) → Lie from cs to → p < length cs
+lie-at : (from : ℕ) (cs : List Answer) (to : ℕ) (e : Answer) (p : ℕ) → Lie from cs to → p < length cs
     → let c = get_or cs p e in
     (from ≤ start_of c) × (start_of c < end_of c) × (end_of c ≤ to)
 lie-at from [] to e p l h = absurd (omega arith)
 lie-at from (c ∷ cs) to e zero l h = (l.1, l.2, lie-to (end_of c) cs to l.3)
   where
-    lie-to : (from : ℕ) (cs : List Card) (to : ℕ) → Lie from cs to → from ≤ to
+    lie-to : (from : ℕ) (cs : List Answer) (to : ℕ) → Lie from cs to → from ≤ to
     lie-to from [] to l = l
     lie-to from (c ∷ cs) to l = omega (arith, l.1, l.2, lie-to (end_of c) cs to l.3)
 lie-at from (c ∷ cs) to e (suc p) l h =
     let r = lie-at (end_of c) cs to e p l.3 (omega arith) in (omega (arith, l.1, l.2, r.0), r.1, r.2)
 
-lie-behind : (from : ℕ) (cs : List Card) (to : ℕ) (e : Card) (i j : ℕ) → Lie from cs to → i < j → j < length cs
+lie-behind : (from : ℕ) (cs : List Answer) (to : ℕ) (e : Answer) (i j : ℕ) → Lie from cs to → i < j → j < length cs
     → end_of (get_or cs i e) ≤ start_of (get_or cs j e)
 lie-behind from [] to e i j l h k = absurd (omega arith)
 lie-behind from (c ∷ cs) to e i zero l h k = absurd (omega arith)

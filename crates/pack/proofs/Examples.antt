@@ -5,12 +5,12 @@ use Prim.Native.Nat.{ℕ}
 use lib.ListN.{replicate}
 use Rattle.words.specs.Bytes.{number}
 use Rattle.words.specs.Search.{place_of}
+use Rattle.pack.specs.Pack.{Word, Song, Shuffle, Done, Refused, BadShuffle}
 use Rattle.pack.specs.Pack.{Reading, ends, gives, answer_at, offends, first_from, item, many, counted, shuffle}
 use Rattle.pack.specs.Pack.{reading, card_at}
 use Rattle.pack.specs.Reader.{told, told_of, is_card, read_at, judged}
-use Rattle.pack.specs.declared.Card.TheVariants.{Word, Song, Shuffle, Done, Refused, BadShuffle}
-use Rattle.pack.specs.declared.PackCard.{PackCard}
-use Rattle.pack.specs.declared.PackJudged.{PackJudged}
+use Rattle.pack.specs.Reader.{PackCard}
+use Rattle.pack.specs.Reader.{PackJudged}
 
 -- "The bytes 01 03 63 61 74 00 01 00 are a pack with one word, no song."
 abbrev pub one : List ℕ

@@ -7,5 +7,3 @@ pub mod Whole
 pub mod Demands
 pub mod Unique
 pub mod Examples
-pub mod Lent
-pub mod Calls

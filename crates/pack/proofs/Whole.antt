@@ -13,12 +13,12 @@ use Rattle.words.specs.Block.{part}
 use Rattle.words.specs.Bytes.{Bytes, bytes}
 use Rattle.words.proofs.Bytes.{bytes_take, bytes_drop, bytes-number}
 use Rattle.words.proofs.Lists.{length_part}
+use Rattle.pack.specs.Pack.{Answer, Shuffle, Done, Refused, BadShuffle}
 use Rattle.pack.specs.Pack.{Reading, ends, gives, first_bad, words, songs, card_of, number_at}
 use Rattle.pack.specs.Pack.{many, counted, after_last, shuffle, reading}
 use Rattle.pack.specs.Reader.{told_of}
 use Rattle.pack.specs.Demands.{items, AllOf, NoLonger, Once, Whole}
-use Rattle.pack.specs.declared.Card.{Card}
-use Rattle.pack.specs.declared.Card.TheVariants.{Shuffle, Done, Refused, BadShuffle}
+use Rattle.pack.specs.declared.Kind.{Kind}
 use Rattle.pack.specs.declared.items.Shape.{Shape}
 use Rattle.pack.proofs.Cards.{item-has}
 use Rattle.pack.proofs.Places.{places-once}
@@ -29,11 +29,17 @@ not-refused r e = let z : ◌≡◌ {A = ℕ} 0 1 = cc in omega arith
 not-bad : (i : ℕ) → BadShuffle i ≡ Done → ⊥
 not-bad i e = let z : ◌≡◌ {A = ℕ} 0 1 = cc in omega arith
 
-card-values : (song : Bool) (a l : ℕ) → let t = told_of (card_of song a l) 0 in
-    (t.kind ≡ cond song 2 1) × (t.start ≡ a) × (t.length ≡ l)
+abbrev numbered : Kind → ℕ
+numbered Kind.Word = 1
+numbered Kind.Song = 2
+numbered Kind.Shuffle = 3
+
+card-values : (kind : Kind) (a l : ℕ) → let t = told_of (card_of kind a l) 0 in
+    (t.kind ≡ numbered kind) × (t.start ≡ a) × (t.length ≡ l)
 unfolding told_of
-card-values true a l = (refl, refl, refl)
-card-values false a l = (refl, refl, refl)
+card-values Kind.Word a l = (refl, refl, refl)
+card-values Kind.Song a l = (refl, refl, refl)
+card-values Kind.Shuffle a l = (refl, refl, refl)
 
 laid : (a b c d : List ℕ) {x y : List ℕ} → x ≡ a ++ (b ++ y) → y ≡ c ++ d → x ≡ a ++ (b ++ c) ++ d
 laid a b c d e f =
@@ -63,12 +69,12 @@ module _ (s : List ℕ) (h : Bytes s) where
   -- ---- the cards that a stretch passes
 
   record Run (k : Shape) (at n : ℕ) (f : ℕ → Reading) (r : Reading) : Type 0 where
-    pub passed : List Card
+    pub passed : List Answer
     pub to : ℕ
     pub cards-are : r.cards ≡ passed ++ (f to).cards
     pub ending-is : r.ending ≡ (f to).ending
     pub count-is : length passed ≡ n
-    pub kinds-are : AllOf (cond k.song 2 1) passed
+    pub kinds-are : AllOf (numbered k.kind) passed
     pub bytes-are : drop at s ≡ items s k.width passed ++ drop to s
     pub lengths-are : NoLonger k.longest passed
     pub to-most : to ≤ at + n * (k.width + k.longest)
@@ -76,15 +82,15 @@ module _ (s : List ℕ) (h : Bytes s) where
   -- one card more in front
   run_on : (k : Shape) (at n : ℕ) (f : ℕ → Reading) (r : Reading) → let l = number_at s at k.width in
       at + k.width + l ≤ length s → l ≤ k.longest → Run k (at + k.width + l) n f r
-      → Run k at (suc n) f (gives (card_of k.song (at + k.width) l) r)
+      → Run k at (suc n) f (gives (card_of k.kind (at + k.width) l) r)
   run_on k at n f r fits most run =
       let l = number_at s at k.width in
-      let c = card_of k.song (at + k.width) l in
-      let v = card-values k.song (at + k.width) l in
+      let c = card_of k.kind (at + k.width) l in
+      let v = card-values k.kind (at + k.width) l in
       record {
         passed = c ∷ run.passed;
         to = run.to;
-        cards-are = ap (λ (cs : List Card). c ∷ cs) run.cards-are;
+        cards-are = ap (λ (cs : List Answer). c ∷ cs) run.cards-are;
         ending-is = run.ending-is;
         count-is = ap suc run.count-is;
         kinds-are = (v.0, run.kinds-are);
@@ -139,7 +145,7 @@ module _ (s : List ℕ) (h : Bytes s) where
 
   -- the shuffle, and nothing behind it
   record Shuffled (n at : ℕ) (r : Reading) : Type 0 where
-    pub card : Card
+    pub card : Answer
     pub kind-is : (told_of card 0).kind ≡ 3
     pub cards-are : r.cards ≡ card ∷ []
     pub bytes-are : drop at s ≡ items s 1 (card ∷ [])
@@ -197,8 +203,8 @@ module _ (s : List ℕ) (h : Bytes s) where
           omega (arith, v.n-most, v.run.count-is),
         );
         lengths = (w.run.lengths-are, v.run.lengths-are);
-        cards = w.run.cards-are ∙ ap (λ (cs : List Card). w.run.passed ++ cs)
-            (v.run.cards-are ∙ ap (λ (cs : List Card). v.run.passed ++ cs) z.cards-are);
+        cards = w.run.cards-are ∙ ap (λ (cs : List Answer). w.run.passed ++ cs)
+            (v.run.cards-are ∙ ap (λ (cs : List Answer). v.run.passed ++ cs) z.cards-are);
         is = w.bytes-are ∙ ap₂ (λ (n : ℕ) (t : List ℕ). bytes 1 n ++ t) (sym w.run.count-is)
             (w.run.bytes-are ∙ ap (λ (t : List ℕ). items s 1 w.run.passed ++ t)
             (v.bytes-are ∙ ap₂ (λ (n : ℕ) (t : List ℕ). bytes 1 n ++ t) (sym v.run.count-is)

@@ -4,32 +4,29 @@ use Rattle.words.specs.Block.{part}
 use Rattle.words.specs.Bytes.{Bytes, bytes}
 use Rattle.words.specs.Iterate.{iterate}
 use Rattle.words.specs.Search.{place_of}
-use Rattle.pack.specs.Pack.{reading, card_at}
-use Rattle.pack.specs.Reader.{told_of, is_card, read_at, judged}
-use Rattle.pack.specs.declared.Card.{Card}
-use Rattle.pack.specs.declared.PackCard.{PackCard}
-use Rattle.pack.specs.declared.PackJudged.{PackJudged}
+use Rattle.pack.specs.Pack.{Answer, reading, card_at}
+use Rattle.pack.specs.Reader.{PackCard, PackJudged, told_of, is_card, read_at, judged}
 
 -- where a card's bytes start and end
-abbrev pub start_of : Card → ℕ
+abbrev pub start_of : Answer → ℕ
 start_of c = (told_of c 0).start
 
-abbrev pub end_of : Card → ℕ
+abbrev pub end_of : Answer → ℕ
 end_of c = start_of c + (told_of c 0).length
 
 -- the items of some cards, one behind the other: a length, in so many bytes, and the card's own bytes
-abbrev pub items : List ℕ → ℕ → List Card → List ℕ
+abbrev pub items : List ℕ → ℕ → List Answer → List ℕ
 items s width [] = []
 items s width (c ∷ cs) =
     bytes width (told_of c 0).length ++ (part s (start_of c) (told_of c 0).length ++ items s width cs)
 
 -- are all of a kind
-abbrev pub AllOf : ℕ → List Card → Type 0
+abbrev pub AllOf : ℕ → List Answer → Type 0
 AllOf kind [] = Unit {0}
 AllOf kind (c ∷ cs) = ((told_of c 0).kind ≡ kind) × AllOf kind cs
 
 -- are all no longer than that
-abbrev pub NoLonger : ℕ → List Card → Type 0
+abbrev pub NoLonger : ℕ → List Answer → Type 0
 NoLonger most [] = Unit {0}
 NoLonger most (c ∷ cs) = ((told_of c 0).length ≤ most) × NoLonger most cs
 
@@ -42,9 +39,9 @@ pub record Once (n : ℕ) (entries : List ℕ) : Type 0 where
 -- a pack that is accepted: its words, its songs and its shuffle, as many and as long as may be, with nothing between
 -- them but counts and lengths; what the shuffle says; and the most bytes that these come to
 pub record Whole (s : List ℕ) : Type 0 where
-  pub words : List Card
-  pub songs : List Card
-  pub shuffle : Card
+  pub words : List Answer
+  pub songs : List Answer
+  pub shuffle : Answer
   pub kinds : AllOf 1 words × AllOf 2 songs × ((told_of shuffle 0).kind ≡ 3)
   pub counts : (1 ≤ list_length words) × (list_length words ≤ 12) × (list_length songs ≤ 1)
   pub lengths : NoLonger 40 words × NoLonger 16384 songs

@@ -5,28 +5,37 @@ use Rattle.words.specs.Block.{part}
 use Rattle.words.specs.Bytes.{number}
 use Rattle.words.specs.Search.{place_of}
 use Rattle.answers.specs.Answers.{Row, number_of}
-use Rattle.pack.specs.declared.Card.{Card}
-use Rattle.pack.specs.declared.Card.TheVariants.{Word, Song, Shuffle, Done, Refused, BadShuffle}
+use Rattle.pack.specs.declared.Kind.{Kind}
 use Rattle.pack.specs.declared.items.Shape.{Shape}
 
 -- ---- what a walk gives
 
+-- what a reader answers: three kinds of card, with the start and the length of their bytes, and what ends a walk, done
+-- or a refusal by its number; a bad shuffle has the place of the entry at which it is bad
+pub data Answer : Type 0 where
+  Word : ℕ → ℕ → Answer
+  Song : ℕ → ℕ → Answer
+  Shuffle : ℕ → ℕ → Answer
+  Done : Answer
+  Refused : ℕ → Answer
+  BadShuffle : ℕ → Answer
+
 -- the cards, and what comes behind the last of them
 pub record Reading : Type 0 where
-  pub cards : List Card
-  pub ending : Card
+  pub cards : List Answer
+  pub ending : Answer
 
 -- no card more
-abbrev pub ends : Card → Reading
+abbrev pub ends : Answer → Reading
 ends c = record { cards = []; ending = c }
 
 -- a card, then what follows
-abbrev pub gives : Card → Reading → Reading
+abbrev pub gives : Answer → Reading → Reading
 gives c r = record { cards = c ∷ r.cards; ending = r.ending }
 
 -- what is answered when so many cards have been given: "A refusal keeps the reader's place and is given again. After
 -- the last card comes done, each time, or 15."
-unfoldable pub answer_at : Reading → ℕ → Card
+unfoldable pub answer_at : Reading → ℕ → Answer
 answer_at r place = get_or r.cards place r.ending
 
 -- ---- the shuffle's entries: "every word's place from 0 once"
@@ -48,16 +57,17 @@ first_bad entries = first_from (offends entries) 0 (length entries)
 
 -- "A byte counts the words, 1 to 12; each is a length byte, 1 to 40, and its bytes."
 abbrev pub words : Shape
-words = record { song = false; least = 1; most = 12; width = 1; longest = 40 }
+words = record { kind = Kind.Word; least = 1; most = 12; width = 1; longest = 40 }
 
 -- "A byte counts the songs, 0 or 1; a song is a two-byte little-endian length, 1 to 16,384, and its bytes."
 abbrev pub songs : Shape
-songs = record { song = true; least = 0; most = 1; width = 2; longest = 16384 }
+songs = record { kind = Kind.Song; least = 0; most = 1; width = 2; longest = 16384 }
 
--- "Cards are each word, the song if any,": that of a kind with so many bytes from a place on
-abbrev pub card_of : Bool → ℕ → ℕ → Card
-card_of false start n = Word start n
-card_of true start n = Song start n
+-- "Cards are each word, the song if any, then the shuffle as one": that of a kind with so many bytes from a place on
+abbrev pub card_of : Kind → ℕ → ℕ → Answer
+card_of Kind.Word start n = Word start n
+card_of Kind.Song start n = Song start n
+card_of Kind.Shuffle start n = Shuffle start n
 
 module _ (s : List ℕ) where
   -- ---- an item: a number of so many bytes and, where it counts bytes, as many bytes behind it
@@ -88,7 +98,7 @@ module _ (s : List ℕ) where
   many k zero at follows = follows at
   many k (suc n) at follows =
       item at k.width true 1 k.longest
-      (λ l. gives (card_of k.song (at + k.width) l) (many k n (at + k.width + l) follows))
+      (λ l. gives (card_of k.kind (at + k.width) l) (many k n (at + k.width + l) follows))
 
   -- how many there are, then they; what follows is told their number
   unfoldable pub counted : Shape → ℕ → (ℕ → ℕ → Reading) → Reading
@@ -110,5 +120,5 @@ module _ (s : List ℕ) where
   unfoldable pub reading : Reading
   reading = counted words 0 (λ n at. counted songs at (λ _ at. shuffle n at))
 
-  unfoldable pub card_at : ℕ → Card
+  unfoldable pub card_at : ℕ → Answer
   card_at place = answer_at reading place

@@ -2,32 +2,46 @@
 #![tactic(auto)]
 
 ghost use Rattle.std.specs.Prelude.{◌≡◌};
-ghost use Rattle.pack.specs.Pack.{card_at, ends};
-ghost use Rattle.pack.specs.Stretch.{settled};
-ghost use Rattle.pack.specs.declared.Card.TheVariants.{Done};
-ghost use Rattle.pack.specs.Reader.{read_at, told, told_of, judged, reader_of, Moves};
+ghost use Rattle.answers.specs.Told.{number_of_refusal};
+ghost use Rattle.pack.specs.Pack.{card_at, card_of};
+ghost use Rattle.pack.specs.Stretch.{ended};
+ghost use Rattle.pack.specs.Reader.{said, said_bad, verdict, read_at, told_of, judged, reader_of, Moves};
 
-use items::{Found, counted, shuffle};
+use answers::Refusal;
+use items::{Stop, counted, shuffle};
 
 mod items; // items.rt: the items of a pack, from the front
 
-// What a reader answers: three kinds of card, with the start and the length of their bytes, and what ends a walk, done
-// or a refusal; a bad shuffle has the place of the entry at which it is bad.
-#[derive(Clone, Copy)]
-pub enum Card {
-    Word { start: usize, length: usize },
-    Song { start: usize, length: usize },
-    Shuffle { start: usize, length: usize },
-    Done,
-    Refused(u32),
-    BadShuffle(usize),
+// A kind of card, with its number for C.
+#[derive(Clone, Copy, Debug, PartialEq, Eq)]
+pub enum Kind {
+    Word = 1,
+    Song = 2,
+    Shuffle = 3,
 }
 
-// An answer, and the reader's place after it.
-#[derive(Clone, Copy)]
-pub struct Read {
-    pub card: Card,
-    pub next: usize,
+// A card, with the start and the length of its bytes.
+#[derive(Clone, Copy, Debug, PartialEq, Eq)]
+pub struct Card {
+    pub kind: Kind,
+    pub start: usize,
+    pub length: usize,
+}
+
+// What is wrong with a pack; a bad shuffle has the place of the entry at which it is bad.
+#[derive(Clone, Copy, Debug, PartialEq, Eq)]
+pub enum Bad {
+    CutShort,
+    CountOrLength,
+    BadShuffle(usize),
+    LeftOver,
+}
+
+// A pack that is refused as a whole: how many cards are given before that, and why.
+#[derive(Clone, Copy, Debug, PartialEq, Eq)]
+pub struct Rejected {
+    pub cards: usize,
+    pub why: Bad,
 }
 
 // A reader: a pack and its place in it, the number of cards given.
@@ -37,27 +51,40 @@ pub struct Reader<'a> {
     pub place: usize,
 }
 
-// An answer as C has it: 0 or the refusal; 1 for a word, 2 for a song, 3 for a shuffle, 0 for no card; the start and
-// the length of its bytes; the place of the entry at which a shuffle is bad; the reader's place after it.
-#[repr(C)]
-#[derive(Clone, Copy)]
-pub struct PackCard {
-    pub number: u32,
-    pub kind: u32,
-    pub start: usize,
-    pub length: usize,
-    pub bad: usize,
-    pub next: usize,
+impl Kind {
+    // Its number, as C has it.
+    #[tactic(auto, unfolding(crate::specs::Reader::told_of))]
+    pub fn number(self) -> u32
+        ensures { result ≡ (told_of (card_of self 0 0) 0).kind }
+    {
+        self as u32
+    }
 }
 
-// What a pack is as a whole: 0 or the refusal; how many cards are given before that; the place of the entry at which
-// the shuffle is bad.
-#[repr(C)]
-#[derive(Clone, Copy)]
-pub struct PackJudged {
-    pub number: u32,
-    pub cards: usize,
-    pub bad: usize,
+impl Bad {
+    // The refusal, without the place.
+    #[tactic(auto, unfolding(crate::specs::Reader::told_of))]
+    pub fn refusal(self) -> Refusal
+        ensures { number_of_refusal result ≡ (told_of (said_bad self) 0).number }
+    {
+        match self {
+            Bad::CutShort => Refusal::CutShort,
+            Bad::CountOrLength => Refusal::CountOrLength,
+            Bad::BadShuffle(_) => Refusal::BadShuffle,
+            Bad::LeftOver => Refusal::LeftOver,
+        }
+    }
+
+    // The place of the entry at which a shuffle is bad, and 0 otherwise.
+    #[tactic(auto, unfolding(crate::specs::Reader::told_of))]
+    pub fn entry(self) -> usize
+        ensures { result ≡ (told_of (said_bad self) 0).bad }
+    {
+        match self {
+            Bad::BadShuffle(entry) => entry,
+            _ => 0, // no Option, as C's struct has it
+        }
+    }
 }
 
 // The reader of a pack, at its first card.
@@ -67,155 +94,61 @@ pub fn reader_of<'a>(pack: &'a [u8]) -> Reader<'a>
     Reader { pack, place: 0 }
 }
 
-// The next card, which moves the reader on, or what ends the walk, which does not.
-pub fn next<'s, 'a>(reader: &'s mut Reader<'a>) -> Card
-    ensures { Moves result reader.old reader.new }
+// The next card, which moves the reader on, or none, when it is done, or what is wrong, neither of which does.
+pub fn next<'s, 'a>(reader: &'s mut Reader<'a>) -> Result<Option<Card>, Bad>
+    ensures { Moves (said result) reader.old reader.new }
 {
-    let read = step_at(reader.pack, reader.place);
-    reader.place = read.next;
-    read.card
+    let Some(card) = card_at(reader.pack, reader.place)? else {
+        return Ok(None);
+    };
+    reader.place += 1;
+    Ok(Some(card))
 }
 
 // What a reader of the pack answers at a place, and its place after that: for whoever has a place alone.
-pub fn read_at(pack: &[u8], place: usize) -> Read
-    ensures { result ≡ read_at pack.now place }
+pub fn read_at(pack: &[u8], place: usize) -> (Result<Option<Card>, Bad>, usize)
+    ensures { record { card = said result.0; next = result.1 } ≡ read_at pack.now place }
 {
     let mut reader = Reader { pack, place };
-    let card = next(&mut reader);
-    Read {
-        card: card,
-        next: reader.place,
-    }
+    let answer = next(&mut reader);
+    (answer, reader.place)
 }
 
-// The same as C has it: the document's number, and its values for each kind of answer.
-pub fn told_at(pack: &[u8], place: usize) -> PackCard
-    ensures { result ≡ told (read_at pack.now place) }
-{
-    let read = read_at(pack, place);
-    let card = read.card;
-    told_of(card, read.next)
-}
-
-// Walks the whole pack: what the walk ends with, and how many cards come before that.
-pub fn judge(pack: &[u8]) -> PackJudged
-    ensures { result ≡ judged pack.now }
+// Walks the whole pack: how many cards it has, if nothing is wrong with it.
+pub fn judge(pack: &[u8]) -> Result<usize, Rejected>
+    ensures { verdict result ≡ judged pack.now }
 {
     let mut place = 0;
+    // A loop that takes each card apart by let .. else is document 01's form; no iterator of the library ends at an
+    // answer and counts what came before it.
     loop {
-        let read = read_at(pack, place);
-        let card = read.card;
-        let (Card::Word { .. } | Card::Song { .. } | Card::Shuffle { .. }) = card else {
-            return PackJudged {
-                number: number_of(card),
-                cards: place,
-                bad: bad_of(card),
-            };
+        let answer = match card_at(pack, place) {
+            Ok(answer) => answer,
+            Err(why) => return Err(Rejected { cards: place, why }),
         };
-        place = read.next;
+        let Some(_) = answer else {
+            return Ok(place);
+        };
+        place += 1;
     }
 }
 
 // What a reader of the pack answers at a place.
-pub fn card_at(pack: &[u8], place: usize) -> Card
-    ensures { result ≡ card_at pack.now place }
+pub fn card_at(pack: &[u8], place: usize) -> Result<Option<Card>, Bad>
+    ensures { said result ≡ card_at pack.now place }
 {
-    let words = counted(pack, items::word_shape(), 0, place);
-    let Found::On { count, at, place } = words else {
-        return answer(words);
-    };
-    let songs = counted(pack, items::song_shape(), at, place);
-    let Found::On {
-        count: _,
-        at,
-        place,
-    } = songs
-    else {
-        return answer(songs);
-    };
-    shuffle(pack, count, at, place)
-}
-
-// A card moves a reader on, and what ends the walk does not.
-fn step_at(pack: &[u8], place: usize) -> Read
-    ensures { result ≡ read_at pack.now place }
-{
-    let card = card_at(pack, place);
-    let (Card::Word { .. } | Card::Song { .. } | Card::Shuffle { .. }) = card else {
-        return Read {
-            card: card,
-            next: place,
-        };
-    };
-    Read {
-        card: card,
-        next: place + 1,
+    match walk(pack, place) {
+        Ok(()) => Ok(None),
+        Err(Stop::At(card)) => Ok(Some(card)),
+        Err(Stop::Bad(bad)) => Err(bad),
     }
 }
 
-// The answer that a stretch found.
-fn answer(found: Found) -> Card
-    ensures { result ≡ settled found (λ _ _. ends Done) }
+// The words, the songs and the shuffle, up to the card at a place.
+fn walk(pack: &[u8], place: usize) -> Result<(), Stop>
+    ensures { ended result ≡ card_at pack.now place }
 {
-    match found {
-        Found::Answer(card) => card,
-        Found::On { .. } => Card::Done,
-    }
-}
-
-// The document's number and values for each case. Six cases in one match would become a table of places to jump to.
-fn told_of(card: Card, next: usize) -> PackCard
-    ensures { result ≡ told_of card next }
-{
-    let (Card::Word { start, length }
-    | Card::Song { start, length }
-    | Card::Shuffle { start, length }) = card
-    else {
-        return PackCard {
-            number: number_of(card),
-            kind: 0,
-            start: 0,
-            length: 0,
-            bad: bad_of(card),
-            next: next,
-        };
-    };
-    PackCard {
-        number: 0,
-        kind: kind_of(card),
-        start: start,
-        length: length,
-        bad: 0,
-        next: next,
-    }
-}
-
-fn number_of(card: Card) -> u32
-    ensures { result ≡ (told_of card 0).number }
-{
-    match card {
-        Card::Refused(number) => number,
-        Card::BadShuffle(_) => 14,
-        _ => 0,
-    }
-}
-
-fn kind_of(card: Card) -> u32
-    ensures { result ≡ (told_of card 0).kind }
-{
-    match card {
-        Card::Word { .. } => 1,
-        Card::Song { .. } => 2,
-        Card::Shuffle { .. } => 3,
-        _ => 0,
-    }
-}
-
-fn bad_of(card: Card) -> usize
-    ensures { result ≡ (told_of card 0).bad }
-{
-    match card {
-        Card::BadShuffle(bad) => bad,
-        _ => 0,
-    }
+    let words = counted(pack, items::WORDS, 0, place)?;
+    let songs = counted(pack, items::SONGS, words.at, words.place)?;
+    shuffle(pack, words.count, songs.at, songs.place)
 }

@@ -3,6 +3,7 @@
 // entry; and what judging the pack answers, the number, the cards and that place.
 #![tactic(auto)]
 
+use pack::Bad;
 use words::first;
 
 // The descriptor of the standard output.
@@ -45,94 +46,77 @@ fn main() {
 
 // The pack cut at every byte, and with bytes left over.
 fn cuts(name: &[u8], pack: &[u8]) {
-    let mut n = 0;
-    while n <= pack.len() {
-        io::write_all(STDOUT_FILENO, name);
-        put_number(n as u64);
-        put_pack(first(pack, n));
-        n += 1;
+    for n in 0..=pack.len() {
+        put_line(name, &[n], &pack[..n]);
     }
 }
 
 // Each byte changed to each value.
 fn changes() {
-    let mut at: usize = 0;
-    while at < 19 {
-        let mut i: usize = 0;
-        while i < 10 {
-            change(at, VALUES[i]);
-            i += 1;
+    for at in 0..19 {
+        for value in VALUES {
+            let mut pack = THREE;
+            pack[at] = value;
+            put_line(b"changed", &[at, usize::from(value)], &pack[..19]);
         }
-        at += 1;
     }
-}
-
-fn change(at: usize, value: u8) {
-    let mut pack = THREE;
-    put(&mut pack, at, value);
-    io::write_all(STDOUT_FILENO, b"changed");
-    put_number(at as u64);
-    put_number(value as u64);
-    put_pack(first(&pack, 19));
 }
 
 // Every shuffle of three words with entries up to 3.
 fn shuffles() {
-    let mut i: u8 = 0;
-    while i < 64 {
-        shuffle(i / 16, i / 4 % 4, i % 4);
-        i += 1;
+    for a in 0..4 {
+        for b in 0..4 {
+            for c in 0..4 {
+                shuffle([a, b, c]);
+            }
+        }
     }
 }
 
-fn shuffle(a: u8, b: u8, c: u8) {
+fn shuffle(entries: [u8; 3]) {
     let mut pack = THREE;
-    put(&mut pack, 16, a);
-    put(&mut pack, 17, b);
-    put(&mut pack, 18, c);
-    io::write_all(STDOUT_FILENO, b"shuffle");
-    put_number(a as u64);
-    put_number(b as u64);
-    put_number(c as u64);
-    put_pack(first(&pack, 19));
+    pack[16..19].copy_from_slice(&entries);
+    put_line(b"shuffle", &entries.map(usize::from), &pack[..19]);
 }
 
 fn plan_of(words: usize, length: usize, songs: usize, song: usize, entries: usize) -> Plan {
     Plan {
-        words: words,
-        length: length,
-        songs: songs,
-        song: song,
-        entries: entries,
+        words,
+        length,
+        songs,
+        song,
+        entries,
     }
 }
 
-// The least pack and the largest, and each count and length one beyond what is allowed.
+// The least pack and the largest, and each count and length one beyond what is allowed: rows of numbers, a case each.
 fn plans() {
-    around(plan_of(1, 1, 0, 0, 1));
-    around(plan_of(12, 40, 1, 16384, 12));
-    around(plan_of(13, 1, 0, 0, 13));
-    around(plan_of(0, 1, 0, 0, 0));
-    around(plan_of(1, 41, 0, 0, 1));
-    around(plan_of(12, 41, 1, 1, 12));
-    around(plan_of(1, 1, 1, 16385, 1));
-    around(plan_of(1, 1, 1, 0, 1));
-    around(plan_of(1, 1, 2, 1, 1));
-    around(plan_of(1, 1, 0, 0, 2));
-    around(plan_of(12, 1, 0, 0, 13));
-    around(plan_of(3, 1, 1, 1, 2));
-    around(plan_of(1, 1, 1, 1, 1));
+    for plan in [
+        plan_of(1, 1, 0, 0, 1),
+        plan_of(12, 40, 1, 16384, 12),
+        plan_of(13, 1, 0, 0, 13),
+        plan_of(0, 1, 0, 0, 0),
+        plan_of(1, 41, 0, 0, 1),
+        plan_of(12, 41, 1, 1, 12),
+        plan_of(1, 1, 1, 16385, 1),
+        plan_of(1, 1, 1, 0, 1),
+        plan_of(1, 1, 2, 1, 1),
+        plan_of(1, 1, 0, 0, 2),
+        plan_of(12, 1, 0, 0, 13),
+        plan_of(3, 1, 1, 1, 2),
+        plan_of(1, 1, 1, 1, 1),
+    ] {
+        around(plan);
+    }
 }
 
 // A byte short, whole, and a byte too long.
 fn around(p: Plan) {
-    let mut room = [0u8; 16900];
+    let mut room = [0u8; 16900]; // an array, here and below: the program takes no memory
     let n = build(p, &mut room);
-    if n > 0 {
-        if n < 16900 {
-            built(p, &room, n - 1);
-            built(p, &room, n);
-            built(p, &room, n + 1);
+    if 0 < n && n < 16900 {
+        for cut in n - 1..=n + 1 {
+            built(p, &room, cut);
         }
     }
 }
@@ -141,113 +125,116 @@ fn around(p: Plan) {
 fn heads(p: Plan) {
     let mut room = [0u8; 16900];
     build(p, &mut room);
-    let mut n = 492;
-    while n < 498 {
+    for n in 492..498 {
         built(p, &room, n);
-        n += 1;
     }
 }
 
 fn built(p: Plan, room: &[u8], n: usize) {
-    io::write_all(STDOUT_FILENO, b"built");
-    put_number(p.words as u64);
-    put_number(p.length as u64);
-    put_number(p.songs as u64);
-    put_number(p.song as u64);
-    put_number(p.entries as u64);
-    put_number(n as u64);
-    put_pack(first(room, n));
+    put_line(
+        b"built",
+        &[p.words, p.length, p.songs, p.song, p.entries, n],
+        first(room, n),
+    );
 }
 
 // Writes the pack, and answers its length.
 fn build(p: Plan, room: &mut [u8]) -> usize {
-    let mut at = put(room, 0, (p.words % 256) as u8);
-    let mut i = 0;
-    while i < p.words {
-        at = put(room, at, (p.length % 256) as u8);
+    let mut at = put(room, 0, p.words);
+    for _ in 0..p.words {
+        at = put(room, at, p.length);
         at = put_times(room, at, 7, p.length);
-        i += 1;
     }
-    at = put(room, at, (p.songs % 256) as u8);
-    i = 0;
-    while i < p.songs {
-        at = put(room, at, (p.song % 256) as u8);
-        at = put(room, at, (p.song / 256 % 256) as u8);
+    at = put(room, at, p.songs);
+    for _ in 0..p.songs {
+        at = put(room, at, p.song);
+        at = put(room, at, p.song / 256);
         at = put_times(room, at, 9, p.song);
-        i += 1;
     }
-    at = put(room, at, (p.entries % 256) as u8);
-    i = 0;
-    while i < p.entries {
-        at = put(room, at, (i % 256) as u8);
-        i += 1;
+    at = put(room, at, p.entries);
+    for i in 0..p.entries {
+        at = put(room, at, i);
     }
     at
 }
 
 // Each length with each number of bytes behind it, and nothing else.
 fn lone_words() {
-    let mut i: usize = 0;
-    while i < 25 {
-        lone_word(LENGTHS[i / 5], LENGTHS[i % 5]);
-        i += 1;
+    for length in LENGTHS {
+        for behind in LENGTHS {
+            lone_word(length, behind);
+        }
     }
 }
 
 fn lone_word(length: u8, behind: u8) {
-    let mut room = [0u8; 257];
-    put(&mut room, 0, 1);
-    put(&mut room, 1, length);
-    let n = put_times(&mut room, 2, 7, behind as usize);
-    io::write_all(STDOUT_FILENO, b"lone");
-    put_number(length as u64);
-    put_number(behind as u64);
-    put_pack(first(&room, n));
+    let mut room = [7u8; 257];
+    room[0] = 1;
+    room[1] = length;
+    let numbers = [usize::from(length), usize::from(behind)];
+    put_line(b"lone", &numbers, first(&room, 2 + numbers[1]));
 }
 
-// Writes a byte, if there is room for it, and answers the place behind it.
-fn put(room: &mut [u8], at: usize, byte: u8) -> usize {
+// Writes the low byte of a number, if there is room for it, and answers the place behind it: a few lines that
+// `hexadecimal` has for bytes.
+fn put(room: &mut [u8], at: usize, number: usize) -> usize {
     if at < room.len() {
-        room[at] = byte;
-        return at + 1;
+        room[at] = (number % 256) as u8;
+        at + 1
+    } else {
+        at
     }
-    at
 }
 
-fn put_times(room: &mut [u8], at: usize, byte: u8, times: usize) -> usize {
+fn put_times(room: &mut [u8], at: usize, number: usize, times: usize) -> usize {
     let mut end = at;
-    let mut i = 0;
-    while i < times {
-        end = put(room, end, byte);
-        i += 1;
+    for _ in 0..times {
+        end = put(room, end, number);
     }
     end
 }
 
-// What a reader answers, from the first card on, in the fifteen calls that end every walk; then what judging answers.
-fn put_pack(pack: &[u8]) {
-    let mut card = pack::told_at(pack, 0);
-    let mut i: usize = 0;
-    while i < 15 {
-        if card.kind != 0 {
-            put_three(card.kind as usize, card.start, card.length);
-            card = pack::told_at(pack, card.next);
+// A line: by which rule the pack is made, with the rule's numbers; what a reader answers, from the first card on; then
+// what judging answers.
+fn put_line(name: &[u8], numbers: &[usize], pack: &[u8]) {
+    io::write_all(STDOUT_FILENO, name);
+    put_numbers(numbers);
+    let (number, entry) = refused(put_cards(pack));
+    put_numbers(&[0, number, entry]);
+    match pack::judge(pack) {
+        Ok(cards) => put_numbers(&[0, cards, 0]),
+        Err(rejected) => {
+            let (number, entry) = refused(Err(rejected.why));
+            put_numbers(&[number, rejected.cards, entry]);
         }
-        i += 1;
     }
-    put_three(card.kind as usize, card.number as usize, card.bad);
-    let judged = pack::judge(pack);
-    put_three(judged.number as usize, judged.cards, judged.bad);
     io::write_all(STDOUT_FILENO, b"\n");
 }
 
-fn put_three(a: usize, b: usize, c: usize) {
-    put_number(a as u64);
-    put_number(b as u64);
-    put_number(c as u64);
+// The cards, in the fifteen calls that end every walk, and what ends it.
+fn put_cards(pack: &[u8]) -> Result<(), Bad> {
+    let mut reader = pack::reader_of(pack);
+    for _ in 0..15 {
+        let Some(card) = pack::next(&mut reader)? else {
+            break;
+        };
+        put_numbers(&[card.kind.number() as usize, card.start, card.length]);
+    }
+    Ok(())
 }
 
-fn put_number(n: u64) {
-    io::write_all(STDOUT_FILENO, b" ");
-    io::print_decimal(STDOUT_FILENO, n);
+// The number of an answer, and the place of a bad entry.
+fn refused(answer: Result<(), Bad>) -> (usize, usize) {
+    match answer {
+        Ok(()) => (0, 0),
+        Err(bad) => (bad.refusal().number() as usize, bad.entry()),
+    }
+}
+
+// Four lines that edges has too: a crate for them would be no plainer.
+fn put_numbers(numbers: &[usize]) {
+    for &n in numbers {
+        io::write_all(STDOUT_FILENO, b" ");
+        io::print_decimal(STDOUT_FILENO, n as u64);
+    }
 }

@@ -1,23 +1,20 @@
 -- What the code makes, from what its calls ensure.
-use mathlib.Core.Path.{◌≡◌, refl, sym, ap, ap₂, subst⁻¹, ◌∙◌}
+use mathlib.Core.Path.{◌≡◌, refl, sym, ap, ap₂, ◌∙◌}
 use mathlib.Core.Bool.{false}
-use mathlib.Core.List.{List, ◌++◌}
+use mathlib.Core.List.{List, ◌++◌, append_assoc, append-nil}
 use Prim.Native.Nat.{ℕ, ◌+◌, ◌-◌, ◌≤◌}
 use native.Mathlib.Omega.{arith}
-use lib.ListN.{length, take, drop, replicate, length-append, length-take, length-drop}
-use lib.Seq.{sets, take_all}
-use lib.Dec.{lit≤}
-use borrow.Rule.Slice.PartMut.{put_mid}
+use lib.ListN.{length, take, drop, length-append, length-drop, drop_of_length-le}
+use lib.Seq.{take_all, drop-drop}
 use borrow.Author.Tests.{eqb-true, not-false, ltb-false}
-use Rattle.words.specs.declared.Block.{Block}
-use Rattle.words.specs.Block.{value, halves, part, loaded, stored}
-use Rattle.words.specs.Bytes.{Bytes, bytes, over}
+use Rattle.std.specs.Prelude.{Err}
+use Rattle.words.specs.Block.{part}
+use Rattle.words.specs.Bytes.{bytes, over}
+use Rattle.words.proofs.Bytes.{length-bytes}
+use Rattle.answers.specs.declared.Refusal.{Refusal}
+use Rattle.answers.specs.Told.{number_of_refusal}
 use Rattle.answers.specs.Answers.{Row, number_of, Answer, answered}
-use Rattle.words.proofs.Blocks.{copied}
-use Rattle.words.proofs.Bytes.{length-bytes, bytes-bytes}
-use Rattle.words.proofs.Over.{length_over, over-next, sets-front, part-next}
-use Rattle.answers.proofs.Answers.{Clear, refuse-clear, judged-refused, judged-clear}
-use Rattle.words.proofs.WordLists.{stored-word}
+use Rattle.answers.proofs.Answers.{Clear, refuse-clear, handed-on, goes-on}
 use Rattle.hyena.specs.Entry as hyena
 use Rattle.hyena.specs.Entry.{Inputs, inputs, output_of, tag_of, gift}
 use Rattle.hyena.proofs.Entry.{sealing-done}
@@ -26,63 +23,55 @@ use Rattle.sealed_card.specs.SealedCard.{card_of, seal_rows, sealing, Sealing, l
 
 -- ---- sealing
 
+-- a room that is filled
+over-all : (out room : List ℕ) → length room ≤ length out → over out room ≡ out
+unfolding over
+over-all out room h = rw (drop_of_length-le room {i = length out} h) (append-nil out)
+
 module _ (key nonce «data» text : List ℕ) (lk : length key ≡ 16) (ln : length nonce ≡ 12) (la : length «data» ≤ 65536)
     (lt : length text ≤ 65535) where
-  abbrev head : List ℕ
-  head = nonce ++ bytes 2 (length text)
+  abbrev ct : List ℕ
+  ct = output_of gift false (inputs key nonce «data» text)
 
-  length-head : length head ≡ 14
-  length-head = length-append nonce (bytes 2 (length text)) ∙ ap₂ ◌+◌ ln (length-bytes 2 (length text))
+  abbrev tag : List ℕ
+  tag = tag_of gift false (inputs key nonce «data» text)
 
-  module _ (room : List ℕ) (lr : length text + 30 ≤ length room) (hn : Bytes nonce) {b b' : Block}
-      {r₁ r₂ p tag r₄ : List ℕ} {n : ℕ} (eb : b ≡ halves (loaded nonce 0 12)) (e₁ : r₁ ≡ stored room 0 12 (value b))
-      (e₂ : r₂ ≡ stored r₁ 12 2 (value (record { lo = length text; hi = 0 })))
-      (es : hyena.Sealing gift n (inputs key nonce «data» text) (take (length r₂ - 14) (drop 14 r₂)) (replicate 16 0) p
-      tag)
-      (eb' : b' ≡ halves (loaded tag 0 16)) (e₄ : r₄
-      ≡ stored (put_mid 14 (length r₂ - 14) r₂ p) (14 + length text) 16 (value b')) where
-    headed : r₂ ≡ over head room
-    headed =
-        let c : stored room 0 12 (value b) ≡ sets room 0 nonce =
-        ap (λ (k : ℕ). stored room 0 k (value b)) (sym ln)
-        ∙ copied nonce room 0 hn (omega arith) (eb ∙ ap (λ (k : ℕ). halves (loaded nonce 0 k)) (sym ln)) in
-        let r : r₁ ≡ over nonce room = e₁ ∙ c ∙ sets-front nonce room (omega arith) in
-        e₂ ∙ ap (λ (l : List ℕ). stored l 12 2 (value (record { lo = length text; hi = 0 }))) r
-        ∙ stored-word (over nonce room) 12 2 (length text) (lit≤ tt)
-        ∙ ap (λ (k : ℕ). sets (over nonce room) k (bytes 2 (length text))) (sym ln)
-        ∙ over-next nonce (bytes 2 (length text)) room (omega (arith, length-bytes 2 (length text)))
+  length-ct : length ct ≡ length text
+  length-ct = length-outputs (gift key) false nonce «data» text
 
-    pub written_is : r₄ ≡ over (card_of (inputs key nonce «data» text)) room
-    unfolding card_of
-    written_is =
-        let ct = output_of gift false (inputs key nonce «data» text) in
-        let lc : length ct ≡ length text = length-outputs (gift key) false nonce «data» text in
-        let lh : length r₂ ≡ length room = ap length headed ∙ length_over head room (omega (arith, length-head)) in
-        let fits : length text ≤ length (take (length r₂ - 14) (drop 14 r₂)) =
-        simp (length-take, length-drop) (omega arith) in
-        let d : answered {A = hyena.Sealed} n (record { room = p; tag = tag })
-        ≡ answered 0 (record {
-          room = over ct (take (length r₂ - 14) (drop 14 r₂));
-          tag = tag_of gift false (inputs key nonce «data» text);
-        }) =
-        es ∙ sealing-done gift (inputs key nonce «data» text) (replicate 16 0) _ lk ln la (omega arith) refl fits in
-        let ep : p ≡ over ct (take (length r₂ - 14) (drop 14 r₂)) =
-        ap (λ (a : Answer hyena.Sealed). a.outcome.room) d in
-        let et : tag ≡ tag_of gift false (inputs key nonce «data» text) =
-        ap (λ (a : Answer hyena.Sealed). a.outcome.tag) d in
-        let lt' : length tag ≡ 16 = ap length et ∙ length-bytes 16 _ in
-        let r₃ : put_mid 14 (length r₂ - 14) r₂ p ≡ over (head ++ ct) room =
-        part-next head room 14 length-head (omega arith) ct r₂ p headed ep in
-        let lh' : length (head ++ ct) ≡ 14 + length text = length-append head ct ∙ ap₂ ◌+◌ length-head lc in
-        let c : stored (over (head ++ ct) room) (14 + length text) 16 (value b')
-        ≡ sets (over (head ++ ct) room) (14 + length text) tag =
-        ap (λ (k : ℕ). stored (over (head ++ ct) room) (14 + length text) k (value b')) (sym lt')
-        ∙ copied tag (over (head ++ ct) room) (14 + length text) (subst⁻¹ Bytes et (bytes-bytes 16 _)) (omega arith)
-        (eb' ∙ ap (λ (k : ℕ). halves (loaded tag 0 k)) (sym lt')) in
-        e₄ ∙ ap (λ (l : List ℕ). stored l (14 + length text) 16 (value b')) r₃ ∙ c
-        ∙ ap₂ (λ (k : ℕ) (l : List ℕ). sets (over (head ++ ct) room) k l) (sym lh') et
-        ∙ over-next (head ++ ct) (tag_of gift false (inputs key nonce «data» text)) room
-        (let l : length (tag_of gift false (inputs key nonce «data» text)) ≡ 16 = length-bytes 16 _ in omega arith)
+  length-tag : length tag ≡ 16
+  length-tag = length-bytes 16 _
+
+  -- the ciphertext is given a room of its length
+  module _ {n : ℕ} (room tag-room : List ℕ) {p q : List ℕ} (lr : length room ≡ length text)
+      (lt' : length tag-room ≡ 16)
+      (es : hyena.Sealing gift n (inputs key nonce «data» text) room tag-room p q) where
+    done : answered {A = hyena.Sealed} n (record { room = p; tag = q })
+        ≡ answered 0 (record { room = over ct room; tag = tag })
+    done = es ∙ sealing-done gift (inputs key nonce «data» text) tag-room room lk ln la (omega arith) lt' (omega arith)
+
+    pub not-refused : n ≡ 0
+    not-refused = ap (λ (a : Answer hyena.Sealed). a.number) done
+
+    ciphertext-is : p ≡ ct
+    ciphertext-is =
+        ap (λ (a : Answer hyena.Sealed). a.outcome.room) done ∙ over-all ct room (omega (arith, length-ct))
+
+    tag-is : q ≡ tag
+    tag-is = ap (λ (a : Answer hyena.Sealed). a.outcome.tag) done
+
+    -- the parts are written one behind the other, and what is behind them stays
+    pub written_is : (whole r₁ r₂ r₃ f l : List ℕ) → r₁ ≡ drop 12 whole → r₂ ≡ drop 2 r₁ → r₃ ≡ drop (length text) r₂
+        → f ≡ nonce → l ≡ bytes 2 (length text)
+        → f ++ (l ++ (p ++ (q ++ drop 16 r₃))) ≡ over (card_of (inputs key nonce «data» text)) whole
+    unfolding card_of over
+    written_is whole r₁ r₂ r₃ f l e₁ e₂ e₃ ef el =
+        let card = nonce ++ bytes 2 (length text) ++ ct ++ tag in
+        let lc : length card ≡ 14 + length text + 16 =
+        simp length-append (omega (arith, ln, length-bytes 2 (length text), length-ct, length-tag)) in
+        let behind : drop 16 r₃ ≡ drop (length card) whole =
+        rw (e₃, e₂, e₁) (simp drop-drop (ap (λ (k : ℕ). drop k whole) (sym lc))) in
+        rw (ef, el, ciphertext-is, tag-is, behind) (simp append_assoc)
 
 -- what is not refused
 pub record Sealable (key nonce «data» text room : ℕ) : Type 0 where
@@ -103,60 +92,47 @@ sealable key nonce «data» text room (k, (n, (a, (t, (r, none))))) =
       room_fits = ltb-false _ _ r;
     }
 
-module _ (i : Inputs) (room : List ℕ) {r : ℕ} (er : r ≡ number_of
-    (seal_rows (length i.key) (length i.nonce) (length i.«data») (length i.text) (length room))) where
+module _ (i : Inputs) (room : List ℕ) where
   abbrev sealed-by : List Row
   sealed-by = seal_rows (length i.key) (length i.nonce) (length i.«data») (length i.text) (length room)
 
-  pub seal-refused : (r ≡ 0 → ⊥) → Sealing r i room room
+  pub seal-refused : (why : Refusal) → number_of_refusal why ≡ number_of sealed-by
+      → Sealing (number_of_refusal why) i room room
   unfolding sealing
-  seal-refused = judged-refused sealed-by er room _
+  seal-refused why e = handed-on {B = Unit {0}} (Err why) sealed-by e refl room _
 
-  pub seal-lengths : r ≡ 0 → Sealable (length i.key) (length i.nonce) (length i.«data») (length i.text)
-      (length room)
-  seal-lengths e = sealable _ _ _ _ _ (judged-clear sealed-by er tt e)
-
-  pub sealed-is : {room' : List ℕ} → r ≡ 0 → room' ≡ over (card_of i) room → Sealing 0 i room room'
+  pub sealed-is : {room' : List ℕ} → 0 ≡ number_of sealed-by → room' ≡ over (card_of i) room → Sealing 0 i room room'
   unfolding sealing
-  sealed-is e es = ap (answered 0) es ∙ sym (refuse-clear room _ sealed-by (judged-clear sealed-by er tt e))
+  sealed-is e es = ap (answered 0) es ∙ sym (refuse-clear room _ sealed-by (goes-on sealed-by e tt))
 
 -- ---- opening
 
-module _ (key «data» card room : List ℕ) {n r : ℕ} (en : n ≡ length_in card)
-    (er : r ≡ number_of (open_rows (length key) (length «data») (length card) n (length room))) where
+module _ (key «data» card room : List ℕ) {n : ℕ} (en : n ≡ length_in card) where
+  abbrev judged-by : List Row
+  judged-by = open_rows (length key) (length «data») (length card) n (length room)
+
   abbrev opened-by : List Row
   opened-by = open_rows (length key) (length «data») (length card) (length_in card) (length room)
 
-  weighed : r ≡ number_of opened-by
-  weighed = er ∙ ap (λ (k : ℕ). number_of (open_rows (length key) (length «data») (length card) k (length room))) en
+  weighed : number_of judged-by ≡ number_of opened-by
+  weighed = ap (λ (k : ℕ). number_of (open_rows (length key) (length «data») (length card) k (length room))) en
 
-  pub open-refused : (r ≡ 0 → ⊥) → Opening r key «data» card room room
+  pub open-refused : (why : Refusal) → number_of_refusal why ≡ number_of judged-by
+      → Opening (number_of_refusal why) key «data» card room room
   unfolding opening
-  open-refused = judged-refused opened-by weighed room _
+  open-refused why e = handed-on {B = Unit {0}} (Err why) opened-by (e ∙ weighed) refl room _
 
-  -- it is as long as it says
-  pub open-length : r ≡ 0 → length card ≡ n + 30
-  open-length e = omega (arith, en, whole (judged-clear opened-by weighed tt e))
-    where
-      whole : Clear opened-by → length card ≡ length_in card + 30
-      whole (key, («data», (short, (long, (room, none))))) =
-          omega (
-            arith,
-            ltb-false (length card) (length_in card + 30) short,
-            ltb-false (length_in card + 30) (length card)
-                long,
-          )
-
-  pub opened-is : {m : ℕ} {x : List ℕ} → r ≡ 0
-      → hyena.Opening gift m (inputs key (take 12 (drop 0 card)) «data» (take (14 + n - 14) (drop 14 card)))
-      (take (length card - (14 + n)) (drop (14 + n) card)) room x
+  pub opened-is : (w : ℕ) → 0 ≡ number_of judged-by → w ≡ n → {m : ℕ} {x : List ℕ}
+      → hyena.Opening gift m (inputs key (take 12 card) «data» (take (14 + w - 14) (drop 14 card)))
+      (take (length card - (14 + w)) (drop (14 + w) card)) room x
       → Opening m key «data» card room x
   unfolding opening
-  opened-is e es =
-      let e₁ : 14 + n - 14 ≡ length_in card = omega arith in
-      let e₂ : take (length card - (14 + n)) (drop (14 + n) card) ≡ drop (14 + length_in card) card =
-      take_all (length card - (14 + n)) (drop (14 + n) card) (simp length-drop (omega arith))
-      ∙ ap (λ (k : ℕ). drop (14 + k) card) en in
-      es ∙ ap₂ (λ (k : ℕ) (t : List ℕ). hyena.opening gift (inputs key (part card 0 12) «data» (part card 14 k)) t room)
+  opened-is w e ew es =
+      let e₁ : 14 + w - 14 ≡ length_in card = omega arith in
+      let e₂ : take (length card - (14 + w)) (drop (14 + w) card) ≡ drop (14 + length_in card) card =
+      take_all (length card - (14 + w)) (drop (14 + w) card) (simp length-drop (omega arith))
+      ∙ ap (λ (k : ℕ). drop (14 + k) card) (ew ∙ en) in
+      es
+      ∙ ap₂ (λ (k : ℕ) (t : List ℕ). hyena.opening gift (inputs key (part card 0 12) «data» (part card 14 k)) t room)
       e₁ e₂
-      ∙ sym (refuse-clear room _ opened-by (judged-clear opened-by weighed tt e))
+      ∙ sym (refuse-clear room _ opened-by (goes-on opened-by (e ∙ weighed) tt))

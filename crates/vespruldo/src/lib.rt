@@ -1,5 +1,5 @@
 // What C and Rust link. Each function but the last two is a thin call with the whole promise of what it calls, by its
-// name; a slice crosses as a pointer and a length, a struct by value.
+// name; a slice crosses as a pointer and a length, a struct by value, a refusal as its number.
 #![tactic(auto)]
 
 ghost use Rattle.std.specs.Prelude.{◌≡◌};
@@ -15,26 +15,26 @@ ghost use Rattle.books.specs.Entry as books;
 ghost use Rattle.sealed_card.specs.SealedCard as sealedCard;
 ghost use Rattle.drawer_file.specs.DrawerFile.{storing, Loading};
 ghost use Rattle.pack.specs.Reader.{read_at, told, judged};
+ghost use Rattle.vespruldo.specs.Told.{in_words, judged_in_words};
 
-use batch::Batch;
-use books::Found;
-use chacha::Streamed;
-use drawer::{Drawer, Drawn, DrawnIv};
-use drawer_file::{Loaded, Stored};
-use pack::{PackCard, PackJudged};
+use answers::told;
+use drawer::Drawer;
+use structs::{Batch, Drawn, DrawnIv, Found, Loaded, PackCard, PackJudged, Stored, Streamed};
+
+mod structs; // structs.rt: what C is handed by value
 
 #[unsafe(no_mangle)]
 pub extern "C" fn vespruldo_gift_encipher(key: &[u8], block: &mut [u8]) -> u32
     ensures { gift.Enciphering result key.now block.old block.new }
 {
-    gift::encipher(key, block)
+    told(&gift::encipher(key, block))
 }
 
 #[unsafe(no_mangle)]
 pub extern "C" fn vespruldo_gift_decipher(key: &[u8], block: &mut [u8]) -> u32
     ensures { gift.Deciphering result key.now block.old block.new }
 {
-    gift::decipher(key, block)
+    told(&gift::decipher(key, block))
 }
 
 #[unsafe(no_mangle)]
@@ -50,7 +50,7 @@ pub extern "C" fn vespruldo_seal(
         «data».now text.now) room.old tag.old room.new
         tag.new }
 {
-    hyena::seal(key, nonce, data, text, room, tag)
+    told(&hyena::seal(key, nonce, data, text, room, tag))
 }
 
 #[unsafe(no_mangle)]
@@ -65,7 +65,7 @@ pub extern "C" fn vespruldo_open(
     ensures { hyena.Opening hyena.gift result (hyena.inputs key.now nonce.now
         «data».now ciphertext.now) tag.now room.old room.new }
 {
-    hyena::open(key, nonce, data, ciphertext, tag, room)
+    told(&hyena::open(key, nonce, data, ciphertext, tag, room))
 }
 
 #[unsafe(no_mangle)]
@@ -79,7 +79,7 @@ pub extern "C" fn vespruldo_seal_short(
     ensures { hyena.Sealing hyena.gift result (hyena.short key.now nonce.now
         text.now) room.old tag.old room.new tag.new }
 {
-    hyena::seal_short(key, nonce, text, room, tag)
+    told(&hyena::seal_short(key, nonce, text, room, tag))
 }
 
 #[unsafe(no_mangle)]
@@ -93,7 +93,7 @@ pub extern "C" fn vespruldo_open_short(
     ensures { hyena.Opening hyena.gift result (hyena.short key.now nonce.now
         ciphertext.now) tag.now room.old room.new }
 {
-    hyena::open_short(key, nonce, ciphertext, tag, room)
+    told(&hyena::open_short(key, nonce, ciphertext, tag, room))
 }
 
 #[unsafe(no_mangle)]
@@ -108,7 +108,7 @@ pub extern "C" fn vespruldo_seal_in_place(
         «data».now buffer.old) buffer.old tag.old buffer.new
         tag.new }
 {
-    hyena::seal_in_place(key, nonce, data, buffer, tag)
+    told(&hyena::seal_in_place(key, nonce, data, buffer, tag))
 }
 
 #[unsafe(no_mangle)]
@@ -122,7 +122,7 @@ pub extern "C" fn vespruldo_open_in_place(
     ensures { hyena.Opening hyena.gift result (hyena.inputs key.now nonce.now
         «data».now buffer.old) tag.now buffer.old buffer.new }
 {
-    hyena::open_in_place(key, nonce, data, buffer, tag)
+    told(&hyena::open_in_place(key, nonce, data, buffer, tag))
 }
 
 #[unsafe(no_mangle)]
@@ -136,7 +136,7 @@ pub extern "C" fn vespruldo_card_seal(
     ensures { sealedCard.Sealing result (hyena.inputs key.now nonce.now «data».now
         text.now) room.old room.new }
 {
-    sealed_card::seal(key, nonce, data, text, room)
+    told(&sealed_card::seal(key, nonce, data, text, room))
 }
 
 #[unsafe(no_mangle)]
@@ -144,7 +144,7 @@ pub extern "C" fn vespruldo_card_open(key: &[u8], data: &[u8], card: &[u8], room
     ensures { sealedCard.Opening result key.now «data».now card.now
         room.old room.new }
 {
-    sealed_card::open(key, data, card, room)
+    told(&sealed_card::open(key, data, card, room))
 }
 
 #[unsafe(no_mangle)]
@@ -157,7 +157,7 @@ pub extern "C" fn vespruldo_chacha20(
     ensures { chacha.Streaming result.number result.next key.now nonce.now start
         text.old text.new }
 {
-    chacha::stream(key, nonce, start, text)
+    Streamed::of(chacha::stream(key, nonce, start, text), start)
 }
 
 #[unsafe(no_mangle)]
@@ -165,7 +165,7 @@ pub extern "C" fn vespruldo_blake2b(key: &[u8], text: &[u8], digest: &mut [u8]) 
     ensures { blake.Digesting result key.now text.now digest.old
         digest.new }
 {
-    blake::digest(key, text, digest)
+    told(&blake::digest(key, text, digest))
 }
 
 #[unsafe(no_mangle)]
@@ -173,7 +173,7 @@ pub extern "C" fn vespruldo_lioness_encipher(key: &[u8], iv: &[u8], block: &mut 
     ensures { lioness.Enciphering result key.now iv.now block.old
         block.new }
 {
-    lioness::encipher(key, iv, block)
+    told(&lioness::encipher(key, iv, block))
 }
 
 #[unsafe(no_mangle)]
@@ -181,7 +181,7 @@ pub extern "C" fn vespruldo_lioness_decipher(key: &[u8], iv: &[u8], block: &mut 
     ensures { lioness.Deciphering result key.now iv.now block.old
         block.new }
 {
-    lioness::decipher(key, iv, block)
+    told(&lioness::decipher(key, iv, block))
 }
 
 #[unsafe(no_mangle)]
@@ -195,28 +195,30 @@ pub extern "C" fn vespruldo_drawer_start(reader: u32, count: u64) -> Drawer
 pub extern "C" fn vespruldo_drawer_draw(drawer: Drawer) -> Drawn
     ensures { Drawing for_nonce result.number drawer result.bytes result.next }
 {
-    drawer::draw(drawer)
+    Drawn::of(drawer::draw(drawer), drawer)
 }
 
 #[unsafe(no_mangle)]
 pub extern "C" fn vespruldo_drawer_iv(drawer: Drawer) -> DrawnIv
     ensures { Drawing for_iv result.number drawer result.bytes result.next }
 {
-    drawer::iv(drawer)
+    DrawnIv::of(drawer::iv(drawer), drawer)
 }
 
 #[unsafe(no_mangle)]
 pub extern "C" fn vespruldo_drawer_store(drawer: Drawer) -> Stored
     ensures { result.bytes ≡ storing drawer }
 {
-    drawer_file::store(drawer)
+    Stored {
+        bytes: drawer_file::store(drawer),
+    }
 }
 
 #[unsafe(no_mangle)]
 pub extern "C" fn vespruldo_drawer_load(bytes: &[u8]) -> Loaded
     ensures { Loading result.number bytes.now result.drawer }
 {
-    drawer_file::load(bytes)
+    Loaded::of(drawer_file::load(bytes))
 }
 
 #[unsafe(no_mangle)]
@@ -233,7 +235,10 @@ pub extern "C" fn vespruldo_seal_batch(
         texts.now lengths.now drawer) room.old tags.old room.new
         tags.new result.next }
 {
-    batch::seal(key, data, texts, lengths, drawer, room, tags)
+    Batch::of(
+        batch::seal(key, data, texts, lengths, drawer, room, tags),
+        drawer,
+    )
 }
 
 #[unsafe(no_mangle)]
@@ -241,21 +246,21 @@ pub extern "C" fn vespruldo_key_find(this_term: &[u8], last_term: &[u8], class: 
     ensures { books.Finding result.number this_term.now last_term.now class result.book
         result.offset }
 {
-    books::find(this_term, last_term, class)
+    Found::of(books::find(this_term, last_term, class))
 }
 
 #[unsafe(no_mangle)]
 pub extern "C" fn vespruldo_pack_next(pack: &[u8], place: usize) -> PackCard
-    ensures { result ≡ told (read_at pack.now place) }
+    ensures { in_words result ≡ told (read_at pack.now place) }
 {
-    pack::told_at(pack, place)
+    PackCard::of(pack::read_at(pack, place))
 }
 
 #[unsafe(no_mangle)]
 pub extern "C" fn vespruldo_pack_judge(pack: &[u8]) -> PackJudged
-    ensures { result ≡ judged pack.now }
+    ensures { judged_in_words result ≡ judged pack.now }
 {
-    pack::judge(pack)
+    PackJudged::of(pack::judge(pack))
 }
 
 #[unsafe(no_mangle)]

@@ -3,14 +3,15 @@ use mathlib.Core.Path.{◌≡◌, refl, sym, ap, ap₂, ◌∙◌}
 use mathlib.Core.Bool.{Bool, true, false, cond, ◌&&◌, true≢false, and-eq-true_iff, and-true, and-false, and_assoc}
 use mathlib.Core.List.{List, [], ◌∷◌}
 use Prim.Native.Nat.{ℕ, zero, suc, ◌+◌, ◌≤◌, ◌<◌, min}
-use native.Mathlib.Decide.{dec_le, ℕ_discrete}
-use native.Mathlib.Numerals.{add-one}
+use native.Mathlib.Decide.{ℕ_discrete}
 use native.Mathlib.Omega.{arith}
 use lib.Bits.{bit_or, bit_xor, xor_self, or_zero_r}
 use lib.Dec.{eqb}
-use lib.ListN.{length, drop, get_or, drop_of_length-le}
-use lib.Seq.{drop-cons}
-use borrow.Author.Tests.{eqb-true, eq-eqb, ne_eqb}
+use lib.ListN.{length, take, drop, get_or, length-drop}
+use borrow.Author.Tests.{eqb-true, eq-eqb, ne_eqb, ltb-false}
+use Rattle.std.specs.Prelude.{◌==◌, Some, None}
+use Rattle.std.specs.List.{position, position_or_len}
+use Rattle.std.proofs.lemmas.List.Recursion.{is_position_or_len}
 use Rattle.words.specs.Search.{same, place_of, finding}
 use Rattle.words.proofs.ExclusiveOr.{xor-zero, or-zero}
 use Rattle.words.proofs.Tests.{cond_has}
@@ -49,45 +50,64 @@ joined d a b =
           ∙ sym (ap (λ (u : Bool). eqb d 0 && u) (ne_eqb a b n) ∙ and-false (eqb d 0))
     ]
 
-module _ (s t : List ℕ) (l : length s ≡ length t) where
-  pub same_next : (i d : ℕ) {u : Bool} → i < length s → (eqb d 0 && same (drop i s) (drop i t)) ≡ u
-      → (eqb (bit_or d (bit_xor (get_or s i 0) (get_or t i 0))) 0 && same (drop (i + 1) s) (drop (i + 1) t)) ≡ u
-  unfolding same
-  same_next i d h inv =
-      let h' : i < length t = omega arith in
-      let rest = same (drop (suc i) s) (drop (suc i) t) in
-      let e : same (drop i s) (drop i t) ≡ (eqb (get_or s i 0) (get_or t i 0) && rest) =
-      rw (drop-cons s i 0 h, drop-cons t i 0 h') in
-      rw add-one (ap (λ (v : Bool). v && rest) (joined d (get_or s i 0) (get_or t i 0))
-      ∙ and_assoc (eqb d 0) (eqb (get_or s i 0) (get_or t i 0)) rest ∙ ap (λ (v : Bool). eqb d 0 && v) (sym e)) ∙ inv
+-- one step of a loop that gathers what differs: s and t are what follows
+pub same_next : (d b c : ℕ) (s t : List ℕ) {u : Bool} → (eqb d 0 && same (b ∷ s) (c ∷ t)) ≡ u
+    → (eqb (bit_or d (bit_xor b c)) 0 && same s t) ≡ u
+unfolding same
+same_next d b c s t e =
+    ap (λ (v : Bool). v && same s t) (joined d b c) ∙ and_assoc (eqb d 0) (eqb b c) (same s t) ∙ e
 
-  pub same_end : (i d : ℕ) {u : Bool} → length s ≤ i → (eqb d 0 && same (drop i s) (drop i t)) ≡ u → eqb d 0 ≡ u
-  unfolding same
-  same_end i d h inv =
-      let h' : length t ≤ i = omega arith in
-      let e : same (drop i s) (drop i t) ≡ true = rw (drop_of_length-le s {i = i} h, drop_of_length-le t {i = i} h') in
-      sym (ap (λ (v : Bool). eqb d 0 && v) e ∙ and-true (eqb d 0)) ∙ inv
+-- and its end, where nothing follows
+pub same_end : (d : ℕ) (s t : List ℕ) {u : Bool} → s ≡ [] → t ≡ [] → (eqb d 0 && same s t) ≡ u → eqb d 0 ≡ u
+unfolding same
+same_end d [] [] l z e = sym (and-true (eqb d 0)) ∙ e
+same_end d [] (c ∷ t) l z e = absurd (cc)
+same_end d (b ∷ s) t l z e = absurd (cc)
 
 -- ---- where a number first stands
 
-module _ (s : List ℕ) (c i to : ℕ) {p : ℕ} (inv : finding s i to c ≡ p) where
-  pub goes_on : i < to → i < length s → (get_or s i 0 ≡ c → ⊥) → finding s (i + 1) to c ≡ p
-  unfolding place_of
-  goes_on h l n =
-      let e : place_of c (drop i s) ≡ suc (place_of c (drop (i + 1) s)) =
-      rw (drop-cons s i 0 l, ne_eqb (get_or s i 0) c n, add-one) in
-      omega (arith, inv, e)
+-- the same as the library has it
+place_of-or_len : (c : ℕ) (s : List ℕ) → place_of c s ≡ position_or_len (λ a. a == c) s
+unfolding place_of
+place_of-or_len c s = is_position_or_len (place_of c) (λ a. a == c) refl (λ a s. ap (cond (eqb a c) 0) (omega arith)) s
 
-  pub found : i < length s → get_or s i 0 ≡ c → i ≡ p
-  unfolding place_of
-  found l k = let e : place_of c (drop i s) ≡ 0 = rw (drop-cons s i 0 l, eq-eqb (get_or s i 0) c k) in
-      omega (arith, inv, e)
+pub place_of-le : (c : ℕ) (s : List ℕ) → place_of c s ≤ length s
+unfolding place_of
+place_of-le c [] = omega arith
+place_of-le c (a ∷ s) =
+    let h : place_of c s ≤ length s = place_of-le c s in
+    cond_has (λ (n : ℕ). n ≤ suc (length s)) (eqb a c) (omega arith) (omega arith)
 
-  pub ended : min to (length s) ≤ i → i ≡ p
-  unfolding place_of
-  ended h =
-      let e : length s ≤ i → place_of c (drop i s) ≡ 0 = λ l. rw (drop_of_length-le s {i = i} l) in
-      elim (dec_le to i) [ yes k ↦ omega (arith, inv) | no k ↦ omega (arith, inv, e (omega arith)) ]
+some_of : (t : Bool) (n i : ℕ) → cond t (Some n) None ≡ Some i → n ≡ i
+some_of true n i e = cc
+some_of false n i e = cc
+
+none_of : (t : Bool) (n : ℕ) → cond t (Some n) None ≡ None → t ≡ false
+none_of true n e = cc
+none_of false n e = refl
+
+pub place_of-some : (c : ℕ) (s : List ℕ) (i : ℕ) → position (λ a. a == c) s ≡ Some i → place_of c s ≡ i
+place_of-some c s i e = place_of-or_len c s ∙ some_of _ _ i e
+
+pub place_of-none : (c : ℕ) (s : List ℕ) → position (λ a. a == c) s ≡ None → place_of c s ≡ length s
+place_of-none c s e =
+    let k = ltb-false _ _ (none_of _ _ e) in
+    omega (arith, k, place_of-or_len c s, place_of-le c s)
+
+pub ended : (s : List ℕ) (c i to : ℕ) → min to (length s) ≤ i → i ≡ finding s i to c
+ended s c i to h = omega (arith, place_of-le c (drop i s), length-drop i s)
+
+-- what is searched ends before `to`, and holds the place if it stands before that
+pub place_of-part : (c n : ℕ) (s : List ℕ) → place_of c (take n s) ≡ min n (place_of c s)
+unfolding place_of
+place_of-part c zero s = omega arith
+place_of-part c (suc n) [] = omega arith
+place_of-part c (suc n) (a ∷ s) =
+    let here : Bool → ℕ → ℕ = λ t p. cond t 0 (suc p) in
+    elim (eqb a c) as (λ t. here t (place_of c (take n s)) ≡ min (suc n) (here t (place_of c s))) [
+      | true ↦ omega arith
+      | false ↦ omega (arith, place_of-part c n s)
+    ]
 
 -- it stands at no later place than where it is seen
 pub place-least : (c : ℕ) (s : List ℕ) (j : ℕ) → j < length s → get_or s j 0 ≡ c → place_of c s ≤ j

@@ -10,14 +10,20 @@ use Rattle.words.specs.Block.{value, halves, part, loaded, loaded_pad, stored, t
 use Rattle.words.specs.Bytes.{plus_at}
 use denote.Ref.{Bor}
 use Rattle.words.specs.Lent.{lent, First}
+use Rattle.words.specs.Square.{Squared}
+use Rattle.words.proofs.Squares.{squared-unique}
 use Rattle.words.specs.Search.{same as alike, finding}
 
 -- two results of one equation are equal
 pub same : {A : Type 0} {x y z : A} → x ≡ z → y ≡ z → x ≡ y
 same p q = p ∙ sym q
 
+-- a byte, in 64 bits
 pub wide-unique : (x : ℕ) {r s : ℕ} → r ≡ x → s ≡ x → r ≡ s
 wide-unique x = same
+
+pub from-unique : (x : ℕ) {r s : Block} → r ≡ record { lo = x; hi = 0 } → s ≡ record { lo = x; hi = 0 } → r ≡ s
+from-unique x = same
 
 pub xor-unique : (a b : Block) {r s : Block} → r ≡ halves (bit_xor (value a) (value b))
     → s ≡ halves (bit_xor (value a) (value b)) → r ≡ s
@@ -54,3 +60,7 @@ find-unique s from to c = same
 -- the same bytes at the same place of memory
 pub first-unique : (s : Bor (List ℕ)) (n : ℕ) (a b : Bor (List ℕ)) → First a s n → First b s n → lent a ≡ lent b
 first-unique s n a b = same
+
+pub square-unique : {W : Type 0} (f : ℕ → W → W → W → W → W × W × W × W) (v : List W) {a b : List W} → Squared f v a
+    → Squared f v b → a ≡ b
+square-unique = squared-unique

@@ -5,11 +5,11 @@ use Rattle.blake.proofs.absorb.Goals as goal
 pub loop-i-preserved : goal.loop-i-preserved
 loop-i-preserved c =
     let l = c.loop-i in
-    let a = c.args in
-    (omega arith, absorb-next a.s.now l.c _ _ a.t l.i (omega arith) c.compress_of-d.ensures l.invariant.1)
+    absorb-next c.args.s.now l.h _ _ c.args.t l.i _ (omega (arith, c.saturating_sub-n.ensures)) c.loop-i-test.true
+    c.compress_in.ensures l.invariant
 
 pub returns : goal.returns
 returns c =
     let l = c.loop-i in
-    let a = c.args in
-    absorb-last a.s.now l.c _ _ a.t l.i l.invariant.0 (omega arith) c.compress_of.ensures l.invariant.1
+    absorb-last c.args.s.now l.h _ _ c.args.t l.i _ (omega (arith, c.saturating_sub-n.ensures)) (omega arith)
+    c.compress_in-2.ensures l.invariant

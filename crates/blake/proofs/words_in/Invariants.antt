@@ -1,4 +1,4 @@
-use Rattle.std.proofs.Common.{◌≡◌, ℕ, ◌-◌, ◌*◌, ◌<◌, ◌≤◌, length, get_or}
+use Rattle.std.proofs.Common.{◌≡◌, ℕ, ◌*◌, ◌<◌, length, get_or}
 use Rattle.words.specs.Block.{part}
 use Rattle.words.specs.Bytes.{number}
 use Rattle.blake.specs.Blake.{padded}
@@ -6,7 +6,4 @@ use Rattle.blake.proofs.words_in.Given as goal
 
 abbrev pub invariant-loop-i : goal.invariant-loop-i
 invariant-loop-i l =
-    (l.i ≤ 16) × (length l.m ≡ 16) × ((j : ℕ) → j < l.i → get_or l.m j 0 ≡ number (part (padded l.s) (8 * j) 8))
-
-abbrev pub decreases-loop-i : goal.decreases-loop-i
-decreases-loop-i l = 16 - l.i
+    (length l.m ≡ 16) × ((j : ℕ) → j < l.i → get_or l.m j 0 ≡ number (part (padded l.s) (8 * j) 8))

@@ -3,4 +3,4 @@ use Rattle.books.proofs.class_at.Goals as goal
 
 pub returns : goal.returns
 unfolding class
-returns c = c.two.ensures
+returns c = rw c.from.ensures at c.two.ensures

@@ -1,26 +1,29 @@
-use mathlib.Core.Path.{◌≡◌, ap, ◌∙◌}
-use Rattle.answers.specs.Answers.{number_of}
-use Rattle.books.specs.Entry.{badly_formed}
-use Rattle.books.proofs.Finding.{answer_of, bad, in-this, in-last}
+use Rattle.std.proofs.lemmas.Result.{err_from_is_err_and}
+use Rattle.books.proofs.Finding.{bad, in-this, in-last, in-neither}
 use Rattle.books.proofs.find.Goals as goal
-use Rattle.books.proofs.find.Goals.{After-row-refused}
 
--- both books are judged by the definition's rows
-judged : (c : After-row-refused) → let a = c.args in
-    c.row-refused.result ≡ number_of (badly_formed a.this_term.now a.last_term.now)
-judged c = rw (c.row-refused.ensures, c.row.ensures, c.well_formed-2.ensures, c.well_formed-3.ensures)
+pub returns-in_err-judge : goal.returns-in_err-judge
+returns-in_err-judge c =
+    let a = c.args in
+    let p = err_from_is_err_and c.from_residual.result c.from_residual.ensures.1 in
+    rw (p.1, p.2) (bad a.this_term.now a.last_term.now a.class _ c.in_err-judge.ensures)
 
-pub returns-then-refused-ne0 : goal.returns-then-refused-ne0
-returns-then-refused-ne0 c =
-    ap answer_of c.nowhere.ensures
-    ∙ bad _ _ _ (judged (goal.at.returns-then-refused-ne0 c).After-row-refused) c.if-refused-ne0.true
+pub returns-in-Some : goal.returns-in-Some
+returns-in-Some c =
+    let a = c.args in
+    in-this a.this_term.now a.last_term.now a.class c.in_ok-judge.ensures _ c.in-Some.ensures
 
-pub returns-then-f-eq0 : goal.returns-then-f-eq0
-returns-then-f-eq0 c =
-    in-this _ _ _ (judged (goal.at.returns-then-f-eq0 c).After-row-refused) c.if-refused-ne0.false
-    c.key_in-f.ensures c.if-f-eq0.true
+pub returns-in_err-offset : goal.returns-in_err-offset
+returns-in_err-offset c =
+    let a = c.args in
+    let r = c.from_residual-in_err-offset in
+    let p = err_from_is_err_and r.result r.ensures.1 in
+    rw (p.1, p.2)
+    (in-neither a.this_term.now a.last_term.now a.class c.in_ok-judge.ensures c.in_default.ensures _ c.key_in-2.ensures
+    _ c.in_err-offset.ensures.value)
 
 pub returns : goal.returns
 returns c =
-    in-last _ _ _ (judged (goal.at.returns c).After-row-refused) c.if-refused-ne0.false c.key_in-f.ensures
-    c.if-f-eq0.false c.key_in.ensures
+    let a = c.args in
+    in-last a.this_term.now a.last_term.now a.class c.in_ok-judge.ensures c.in_default.ensures _ c.key_in-2.ensures _
+    c.in_ok-offset.ensures.value

@@ -1,24 +1,18 @@
-use native.Mathlib.Omega.{arith}
-use Rattle.books.proofs.Loops.{rises, falls, risen, other_length, judged}
+use Rattle.std.proofs.Common.{rules, tests, refl, nat_lt, ◌-◌}
+use Rattle.std.proofs.lemmas.Iterator.{YieldsList-from_range}
+use Rattle.std.proofs.lemmas.Iterator.Search.{all_from_yields_List}
+use Rattle.books.specs.Books.{class}
+use Rattle.books.proofs.Searching.{rising-is, other_length}
 use Rattle.books.proofs.well_formed.Goals as goal
 
-pub returns-then-book-n : goal.returns-then-book-n
-returns-then-book-n c = other_length _ c.count_of-n.ensures.0 c.if-book-n.true
+pub returns-then-book-from : goal.returns-then-book-from
+returns-then-book-from c =
+    let book = c.args.book.now in
+    let n = c.count_of-n.result in
+    rising-is book n _ c.count_of-n.ensures c.from.ensures c.if-book-from.true
+    (all_from_yields_List (λ k. nat_lt (class book (k - 1)) (class book k)) _ _ c.all.result c.all.ensures.ran
+    (YieldsList-from_range 1 n (n - 1) refl refl) (λ x b q k. search (rules, tests)))
 
-pub returns-then-class_at : goal.returns-then-class_at
-returns-then-class_at c =
-    let h = c.class_at.ensures in
-    judged _ c.count_of-n.ensures.0 c.if-book-n.false
-    (falls _ _ _ c.loop-i.invariant.1 (omega arith)
-    (omega (arith, h, c.class_at-in-loop-i.ensures, c.if-class_at.true)))
-
-pub loop-i-preserved : goal.loop-i-preserved
-loop-i-preserved c = (
-  omega arith,
-  rises _ _ _ c.loop-i.invariant.1 (omega arith)
-      (omega (arith, c.class_at.ensures, c.class_at-in-loop-i.ensures, c.if-class_at.false)),
-)
-
-pub returns : goal.returns
-returns c =
-    judged _ c.count_of-n.ensures.0 c.if-book-n.false (risen _ _ _ c.loop-i.invariant.1 (omega arith))
+pub returns-else-book-from : goal.returns-else-book-from
+returns-else-book-from c =
+    other_length c.args.book.now _ _ c.count_of-n.ensures c.from.ensures c.if-book-from.false

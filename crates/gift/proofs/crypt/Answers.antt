@@ -1,21 +1,24 @@
+use mathlib.Core.Path.{◌≡◌}
 use lib.ListN.{length}
-use Rattle.answers.proofs.Answers.{judged-refused, judged-clear}
+use borrow.Author.Rules.{rules}
+use Rattle.answers.specs.Answers.{number_of}
+use Rattle.answers.specs.Told.{told}
+use Rattle.answers.proofs.Answers.{handed-on, goes-on}
 use Rattle.gift.specs.Entry.{rows, crypting}
 use Rattle.gift.proofs.Entry.{crypted}
 use Rattle.gift.proofs.crypt.Goals as goal
 
-pub returns-then-refused-ne0 : goal.returns-then-refused-ne0
+pub returns-in_err-refusal : goal.returns-in_err-refusal
 unfolding crypting
-returns-then-refused-ne0 c =
-    let a = c.args in
-    judged-refused (rows (length a.key.now) (length a.block.now)) c.refusal-refused.ensures _ _
-    c.if-refused-ne0.true
+returns-in_err-refusal c =
+    let judged = rows (length c.args.key.now) (length c.args.block.now) in
+    let e : told c.from_residual.result ≡ number_of judged = search rules in
+    handed-on _ judged e c.from_residual.ensures.0 _ _
 
 pub returns : goal.returns
 returns c =
     let a = c.args in
     crypted a.back a.key.now a.block.now
-    (judged-clear (rows (length a.key.now) (length a.block.now)) c.refusal-refused.ensures tt
-    c.if-refused-ne0.false)
+    (goes-on (rows (length a.key.now) (length a.block.now)) c.in_ok-refusal.ensures tt)
     c.load.ensures c.round_keys_of-a.ensures c.load-x.ensures
     c.forty_rounds.ensures c.store.ensures

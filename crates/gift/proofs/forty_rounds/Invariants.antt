@@ -1,5 +1,5 @@
 use mathlib.Core.Bool.{cond}
-use Prim.Native.Nat.{◌-◌, ◌≤◌}
+use Prim.Native.Nat.{◌-◌}
 use mathlib.Core.Path.{◌≡◌}
 use lib.ListN.{get_or}
 use Rattle.words.specs.Block.{value, halves}
@@ -8,8 +8,5 @@ use Rattle.gift.proofs.forty_rounds.Given as goal
 
 abbrev pub invariant-loop-r : goal.invariant-loop-r
 invariant-loop-r l =
-    (l.r ≤ 40) × (l.y ≡ halves (rounds l.back (λ i. value (get_or l.a.rounds (cond l.back (39 - i) i) (halves 0)))
-    l.r (value l.initial.y)))
-
-abbrev pub decreases-loop-r : goal.decreases-loop-r
-decreases-loop-r l = 40 - l.r
+    l.y ≡ halves (rounds l.back (λ i. value (get_or l.a.rounds (cond l.back (39 - i) i) (halves 0)))
+    l.r (value l.initial.y))

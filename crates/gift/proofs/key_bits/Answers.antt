@@ -11,7 +11,7 @@ pub returns : goal.returns
 unfolding key_bits
 returns c =
     let k = c.args.k in
-    c.xor.ensures
+    c.bitxor.ensures
     ∙ ap halves (ap₂ bit_xor
     (value-is c.spread_of.ensures ∙ ap (spread 2 32) (key_u-is k (omega arith)))
     (value-is c.spread_of-2.ensures ∙ ap (spread 1 32) (key_v-is k)))

@@ -1,5 +1,5 @@
 use mathlib.Core.Bool.{cond}
-use Prim.Native.Nat.{◌-◌, ◌*◌, ◌^◌, ◌≤◌}
+use Prim.Native.Nat.{◌*◌, ◌^◌}
 use mathlib.Core.Path.{◌≡◌}
 use Rattle.words.specs.Block.{value, halves}
 use Rattle.words.specs.Digits.{xsum}
@@ -8,8 +8,5 @@ use Rattle.gift.proofs.perm_bits.Given as goal
 
 abbrev pub invariant-loop-i : goal.invariant-loop-i
 invariant-loop-i l =
-    (l.i ≤ 128) × (l.acc ≡ halves
-    (xsum (λ k. bit (cond l.back (place k) k) (value l.x) * 2 ^ cond l.back k (place k)) l.i))
-
-abbrev pub decreases-loop-i : goal.decreases-loop-i
-decreases-loop-i l = 128 - l.i
+    l.acc ≡ halves
+    (xsum (λ k. bit (cond l.back (place k) k) (value l.x) * 2 ^ cond l.back k (place k)) l.i)

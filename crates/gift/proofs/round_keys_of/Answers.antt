@@ -13,10 +13,9 @@ use Rattle.gift.specs.Entry.{round_keys}
 use Rattle.gift.proofs.Keys.{state-next, round_key-next}
 use Rattle.gift.proofs.round_keys_of.Goals as goal
 
-pub loop-i-init : goal.loop-i-init
+pub loop-round_key-init : goal.loop-round_key-init
 unfolding iterate
-loop-i-init c = (
-  omega arith,
+loop-round_key-init c = (
   omega arith,
   refl,
   sym (halves-value c.args.key (omega arith)),
@@ -25,25 +24,26 @@ loop-i-init c = (
       (not-suc-le-zero h),
 )
 
-pub loop-i-preserved : goal.loop-i-preserved
-loop-i-preserved c =
-    let l = c.loop-i in
+pub loop-round_key-preserved : goal.loop-round_key-preserved
+loop-round_key-preserved c =
+    let l = c.loop-round_key in
+    let i = l.round_key-index in
+    let out = l.round_key-items in
     let k = value c.args.key in
-    let e : l.i < length l.out = omega arith in (
+    let e : i < length out = omega arith in (
       omega arith,
-      omega arith,
-      iterate-next (λ j. step_const) l.i 0 l.invariant.2 c.step_const-c.ensures.0,
-      state-next k l.i l.invariant.3 c.key_step-state.ensures,
-      length-set l.out l.i c.xor.result ∙ l.invariant.4,
-      fill-next (λ j. halves (round_key k j)) (halves 0) l.out l.i c.xor.result e l.invariant.5
-          (round_key-next k l.i l.invariant.3 l.invariant.2 c.step_const-c.ensures.0
+      iterate-next (λ j. step_const) i 0 l.invariant.1 c.step_const-c.ensures.0,
+      state-next k i l.invariant.2 c.key_step-state.ensures,
+      length-set out i c.bitxor.result ∙ l.invariant.3,
+      fill-next (λ j. halves (round_key k j)) (halves 0) out i c.bitxor.result e l.invariant.4
+          (round_key-next k i l.invariant.2 l.invariant.1 c.step_const-c.ensures.0
           c.key_bits.ensures c.const_bits.ensures
-          c.xor.ensures),
+          c.bitxor.ensures),
     )
 
 pub returns : goal.returns
 unfolding round_keys
 returns c =
-    let l = c.loop-i in
+    let l = c.loop-round_key in
     ap (λ o. record { rounds = o })
-    (fill_end _ (halves 0) l.out 40 l.invariant.4 (λ j h. l.invariant.5 j (omega arith)))
+    (fill_end _ (halves 0) l.round_key-items 40 l.invariant.3 (λ j h. l.invariant.4 j (omega arith)))

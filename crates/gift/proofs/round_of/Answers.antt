@@ -14,7 +14,7 @@ returns-then-back c =
     c.sub_cells.ensures
     ∙ ap halves
     (ap (sub_cells a.back) (value-is c.perm_bits.ensures
-    ∙ ap (perm_bits a.back) (value-is c.xor.ensures))
+    ∙ ap (perm_bits a.back) (value-is c.bitxor.ensures))
     ∙ ap (λ (b : Bool). sub_cells b (perm_bits b (bit_xor (value a.x) (value a.a)))) c.if-back.true
     ∙ (round_is (value a.a) (value a.x)).1
     ∙ ap (λ (b : Bool). round b (value a.a) (value a.x)) (sym c.if-back.true))
@@ -22,7 +22,7 @@ returns-then-back c =
 pub returns : goal.returns
 returns c =
     let a = c.args in
-    c.xor-2.ensures
+    c.bitxor-2.ensures
     ∙ ap halves
     (ap (λ (y : ℕ). bit_xor y (value a.a)) (value-is c.perm_bits-2.ensures
     ∙ ap (perm_bits a.back) (value-is c.sub_cells-2.ensures))

@@ -1,6 +1,5 @@
 use Prim.Native.Nat.{◌+◌, ◌*◌, ◌^◌}
 use mathlib.Core.Path.{refl}
-use native.Mathlib.Omega.{arith}
 use Rattle.words.specs.Block.{halves}
 use Rattle.words.specs.Digits.{xsum}
 use Rattle.words.proofs.Blocks.{sum-next}
@@ -9,11 +8,11 @@ use Rattle.gift.proofs.spread_of.Goals as goal
 
 pub loop-i-init : goal.loop-i-init
 unfolding spread xsum halves
-loop-i-init c = (omega arith, refl)
+loop-i-init c = c.from-acc.ensures
 
 pub loop-i-preserved : goal.loop-i-preserved
 unfolding spread
 loop-i-preserved c =
     let l = c.loop-i in
     let a = c.args in
-    (omega arith, sum-next (λ k. bit k a.u * 2 ^ (4 * k + a.o)) l.i l.invariant.1 c.put-acc.ensures refl)
+    sum-next (λ k. bit k a.u * 2 ^ (4 * k + a.o)) l.i l.invariant c.put-acc.ensures refl

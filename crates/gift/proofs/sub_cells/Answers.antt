@@ -1,5 +1,5 @@
 use Prim.Native.Nat.{ℕ, ◌*◌, ◌/◌, ◌%◌, ◌^◌}
-use mathlib.Core.Path.{◌≡◌, refl, sym, ap, ap₂, ◌∙◌}
+use mathlib.Core.Path.{◌≡◌, sym, ap, ap₂, ◌∙◌}
 use native.Mathlib.Omega.{arith}
 use Rattle.words.specs.Block.{value, halves}
 use Rattle.words.specs.Digits.{xsum}
@@ -11,7 +11,7 @@ use Rattle.gift.proofs.sub_cells.Goals as goal
 
 pub loop-j-init : goal.loop-j-init
 unfolding xsum halves
-loop-j-init c = (omega arith, refl)
+loop-j-init c = c.from-acc.ensures
 
 pub put-acc-requires : goal.put-acc-requires
 put-acc-requires c =
@@ -20,17 +20,15 @@ put-acc-requires c =
 pub loop-j-preserved : goal.loop-j-preserved
 loop-j-preserved c =
     let l = c.loop-j in
-    let a = c.args in (
-      omega arith,
-      sum-next (λ k. sbox a.back (nibble k (value a.x)) * 16 ^ k) l.j l.invariant.1 c.put-acc.ensures
-          (ap₂ (λ (v p : ℕ). v * p) (c.sbox_of.ensures.0
-          ∙ ap (sbox a.back) (c.bits_at.ensures
-          ∙ ap (λ (p : ℕ). value a.x / p % 16) (sym (pow-pow 4 l.j)))) (sym (pow-pow 4 l.j))),
-    )
+    let a = c.args in
+    sum-next (λ k. sbox a.back (nibble k (value a.x)) * 16 ^ k) l.j l.invariant c.put-acc.ensures
+    (ap₂ (λ (v p : ℕ). v * p) (c.sbox_of.ensures.0
+    ∙ ap (sbox a.back) (c.bits_at.ensures
+    ∙ ap (λ (p : ℕ). value a.x / p % 16) (sym (pow-pow 4 l.j)))) (sym (pow-pow 4 l.j)))
 
 pub returns : goal.returns
 unfolding sub_cells
 returns c =
     let a = c.args in
     let e : c.loop-j.j ≡ 32 = omega arith in
-    c.loop-j.invariant.1 ∙ ap (λ (j : ℕ). halves (xsum (λ k. sbox a.back (nibble k (value a.x)) * 16 ^ k) j)) e
+    c.loop-j.invariant ∙ ap (λ (j : ℕ). halves (xsum (λ k. sbox a.back (nibble k (value a.x)) * 16 ^ k) j)) e

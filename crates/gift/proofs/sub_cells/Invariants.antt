@@ -1,4 +1,4 @@
-use Prim.Native.Nat.{◌-◌, ◌*◌, ◌^◌, ◌≤◌}
+use Prim.Native.Nat.{◌*◌, ◌^◌}
 use mathlib.Core.Path.{◌≡◌}
 use Rattle.words.specs.Block.{value, halves}
 use Rattle.words.specs.Digits.{xsum}
@@ -6,7 +6,4 @@ use Rattle.gift.specs.Gift.{nibble, sbox}
 use Rattle.gift.proofs.sub_cells.Given as goal
 
 abbrev pub invariant-loop-j : goal.invariant-loop-j
-invariant-loop-j l = (l.j ≤ 32) × (l.acc ≡ halves (xsum (λ k. sbox l.back (nibble k (value l.x)) * 16 ^ k) l.j))
-
-abbrev pub decreases-loop-j : goal.decreases-loop-j
-decreases-loop-j l = 32 - l.j
+invariant-loop-j l = l.acc ≡ halves (xsum (λ k. sbox l.back (nibble k (value l.x)) * 16 ^ k) l.j)

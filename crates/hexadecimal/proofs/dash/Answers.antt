@@ -1,8 +1,13 @@
+use Rattle.std.proofs.Common.{rules, ◌≡◌, length}
 use Rattle.hexadecimal.proofs.Hexes.{dash-none, dash-one}
 use Rattle.hexadecimal.proofs.dash.Goals as goal
 
-pub returns-then-room-eq0 : goal.returns-then-room-eq0
-returns-then-room-eq0 c = dash-none _ c.if-room-eq0.true
+pub returns-in_default : goal.returns-in_default
+returns-in_default c =
+    let none : length c.args.room.now ≡ 0 = search rules in
+    dash-none _ none
 
 pub returns : goal.returns
-returns c = dash-one _ c.if-room-eq0.false
+returns c =
+    let some : length c.args.room.now ≡ 0 → ⊥ = search rules in
+    dash-one _ some

@@ -1,35 +1,27 @@
-use mathlib.Core.Path.{refl, ap}
-use Prim.Native.Nat.{◌≤◌, ◌<◌}
-use borrow.Author.Tests.{lt-ltb, le-ltb}
-use Rattle.answers.specs.Answers.{answered}
-use Prim.Native.Nat.{◌*◌}
-use native.Mathlib.Omega.{arith}
-use lib.ListN.{length}
-use Rattle.hexadecimal.specs.Hex.{spelling}
-use Rattle.hexadecimal.proofs.Hexes.{write-next, write-end, write-first}
+use Rattle.std.proofs.Common.{rules, arith, refl, ◌∙◌, ◌≡◌, ◌<◌, ◌≤◌, ◌/◌, length}
+use Rattle.answers.specs.Told.{told}
+use Rattle.hexadecimal.proofs.Hexes.{write-next, write-end, write-first, spell-refused, spell-done}
 use Rattle.hexadecimal.proofs.spell.Goals as goal
 
-pub returns-then-room-s : goal.returns-then-room-s
-unfolding spelling
-returns-then-room-s c =
-    let e : length c.args.room.now < 2 * length c.args.s.now = omega (arith, c.if-room-s.true) in
-    simp (lt-ltb _ _ e)
+pub returns-in_err-refuse-clause-answer : goal.returns-in_err-refuse-clause-answer
+returns-in_err-refuse-clause-answer c =
+    let six : told c.from_residual.result ≡ 6 = search rules in
+    let h : length c.args.room.now / 2 < length c.args.s.now = search rules in
+    spell-refused _ _ six h
 
 pub loop-i-init : goal.loop-i-init
-loop-i-init c = (refl, write-first _ _ (omega (arith, c.if-room-s.false)))
+loop-i-init c =
+    let h : length c.args.s.now ≤ length c.args.room.now / 2 = search rules in
+    write-first _ _ h
 
 pub loop-i-preserved : goal.loop-i-preserved
 loop-i-preserved c =
-    let a = c.args in (
-      omega (arith, c.loop-i.invariant.0, c.two.auto),
-      write-next a.s.now c.loop-i.room _ _ c.loop-i.i (omega arith)
-          c.two.ensures c.loop-i.invariant.1,
-    )
+    let h : length c.args.s.now ≤ length c.args.room.now / 2 = search rules in
+    write-next c.args.s.now c.loop-i.room _ _ _ c.loop-i.i c.loop-i-test.true (omega (arith, h))
+    (c.copy_from_slice.ensures.after ∙ c.digits.ensures) refl
+    c.loop-i.invariant
 
-pub returns : goal.returns
-unfolding spelling
-returns c =
-    let a = c.args in
-    let e : 2 * length a.s.now ≤ length a.room.now = omega (arith, c.if-room-s.false) in
-    simp (le-ltb _ _ e) (ap (answered 0) (write-end a.s.now c.loop-i.room _ c.loop-i.i (omega arith)
-    c.loop-i.invariant.1))
+pub returns-clause-answer : goal.returns-clause-answer
+returns-clause-answer c =
+    let h : length c.args.s.now ≤ length c.args.room.now / 2 = search rules in
+    spell-done _ _ h (write-end c.args.s.now c.loop-i.room _ c.loop-i.i (omega arith) c.loop-i.invariant)

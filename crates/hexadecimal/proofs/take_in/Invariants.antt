@@ -1,13 +1,9 @@
-use mathlib.Core.Path.{◌≡◌}
-use Prim.Native.Nat.{◌-◌}
-use lib.ListN.{length, drop}
+use Rattle.std.proofs.Common.{◌≡◌}
+use lib.ListN.{drop}
 use Rattle.hexadecimal.specs.Hex.{taken_in}
 use Rattle.hexadecimal.proofs.take_in.Given as goal
 
-abbrev pub invariant-loop-i : goal.invariant-loop-i
-invariant-loop-i l =
-    (length l.room ≡ length l.initial.room) × (taken_in (drop l.i l.text) (record { hex = l.s; room = l.room })
-    ≡ taken_in l.text (record { hex = l.initial.s; room = l.initial.room }))
-
-abbrev pub decreases-loop-i : goal.decreases-loop-i
-decreases-loop-i l = length l.text - l.i
+abbrev pub invariant-loop-b : goal.invariant-loop-b
+invariant-loop-b l =
+    taken_in (drop l.b-index l.text) (record { hex = l.read; room = l.room })
+    ≡ taken_in l.text (record { hex = l.initial.read; room = l.initial.room })

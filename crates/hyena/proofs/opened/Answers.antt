@@ -1,37 +1,44 @@
-use mathlib.Core.Path.{sym, ◌∙◌}
+use mathlib.Core.Path.{◌≡◌, ap, sym, ◌∙◌}
+use Prim.Native.Nat.{ℕ}
 use native.Mathlib.Omega.{arith}
-use Prim.Native.Nat.{◌^◌, ◌<◌}
+use lib.ListN.{length}
+use borrow.Author.Rules.{rules}
+use Rattle.answers.specs.Told.{told}
 use Rattle.hyena.specs.Entry.{Inputs, inputs, gift}
 use Rattle.hyena.specs.Source.{source}
-use Rattle.hyena.proofs.Entry.{not-refused, open-refused, opened-is, wrong-is}
+use Rattle.hyena.proofs.Steps.{taken}
+use Rattle.hyena.proofs.Entry.{weighed, not-refused, open-refused, opened-is, wrong-is}
 use Rattle.hyena.proofs.opened.Goals as goal
+use Rattle.hyena.proofs.opened.Goals.{After-unwrap_or-n, In_ok-refusal}
 
-pub returns-then-refused-ne0 : goal.returns-then-refused-ne0
-returns-then-refused-ne0 c =
+abbrev given : After-unwrap_or-n → Inputs
+given c = let a = c.args in inputs a.key.now a.nonce.now a.data.now (source a.ciphertext a.room.now)
+
+-- how much there is to be worked on
+len : (c : After-unwrap_or-n) → length c.unwrap_or-n.result.now ≡ length (given c).text
+len c = ap length (taken c.args.ciphertext _ c.unwrap_or-n.ensures)
+
+pub returns-in_err-refusal : goal.returns-in_err-refusal
+returns-in_err-refusal c =
     let a = c.args in
-    let given : Inputs = inputs a.key.now a.nonce.now a.data.now (source a.in_place a.ciphertext.now a.room.now) in
-    open-refused given a.tag.now a.room.now c.source_len-n.ensures c.refusal-refused.ensures gift c.if-refused-ne0.true
+    let at = (goal.at.returns-in_err-refusal c).After-unwrap_or-n in
+    let n : ℕ = length c.unwrap_or-n.result.now in
+    let answered : told c.from_residual.result ≡ weighed (given at) a.tag.now a.room.now n = search rules in
+    open-refused (given at) a.tag.now a.room.now (len at) gift _ answered c.from_residual.ensures.0
 
 pub returns-then-equal : goal.returns-then-equal
 returns-then-equal c =
     let a = c.args in
-    let given : Inputs = inputs a.key.now a.nonce.now a.data.now (source a.in_place a.ciphertext.now a.room.now) in
+    let at = (goal.at.returns-then-equal c).After-unwrap_or-n in
     -- no length is refused
-    let lengths = not-refused given a.tag.now a.room.now c.source_len-n.ensures c.refusal-refused.ensures
-    c.if-refused-ne0.false in
-    -- the recomputed tag is a block
-    let low : c.run-t.result.lo < 2 ^ 64 = omega arith in
-    let high : c.run-t.result.hi < 2 ^ 64 = omega arith in
-    opened-is gift given _ _ lengths low high c.run-t.ensures.0 c.run-t.ensures.1 c.load.ensures
-    (sym c.equal.ensures ∙ c.if-equal.true)
+    let lengths = not-refused (given at) a.tag.now a.room.now (len at) c.in_ok-refusal.ensures in
+    opened-is gift (given at) _ _ lengths (omega arith) (omega arith) c.run-t.ensures.0 c.run-t.ensures.1
+    c.load.ensures (sym c.equal.ensures ∙ c.if-equal.true)
 
 pub returns : goal.returns
 returns c =
     let a = c.args in
-    let given : Inputs = inputs a.key.now a.nonce.now a.data.now (source a.in_place a.ciphertext.now a.room.now) in
-    let lengths = not-refused given a.tag.now a.room.now c.source_len-n.ensures c.refusal-refused.ensures
-    c.if-refused-ne0.false in
-    let low : c.run-t.result.lo < 2 ^ 64 = omega arith in
-    let high : c.run-t.result.hi < 2 ^ 64 = omega arith in
-    wrong-is gift given _ _ lengths low high c.run-t.ensures.0 c.run-t.ensures.1 c.load.ensures
-    c.source_len-n.ensures (sym c.equal.ensures ∙ c.if-equal.false) c.wipe.ensures
+    let at = (goal.at.returns c).After-unwrap_or-n in
+    let lengths = not-refused (given at) a.tag.now a.room.now (len at) c.in_ok-refusal.ensures in
+    wrong-is gift (given at) _ _ lengths (omega arith) (omega arith) c.run-t.ensures.0 c.run-t.ensures.1
+    c.load.ensures (len at) (sym c.equal.ensures ∙ c.if-equal.false) c.wipe.ensures

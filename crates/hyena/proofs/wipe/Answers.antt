@@ -1,17 +1,13 @@
-use mathlib.Core.Path.{refl, sym, ◌∙◌}
-use native.Mathlib.Omega.{arith}
-use lib.ListN.{length-set}
-use Rattle.words.proofs.Over.{over_none}
-use Rattle.hyena.proofs.Steps.{wipe-next}
+use Rattle.std.proofs.Common.{◌≡◌, ℕ, length, take, replicate, length-take-le}
+use Rattle.std.proofs.Math.ListN.{length-replicate}
+use Rattle.words.specs.Bytes.{over}
 use Rattle.hyena.proofs.wipe.Goals as goal
 
-pub loop-i-init : goal.loop-i-init
-loop-i-init c = (omega arith, refl, sym (over_none c.args.room.now))
-
-pub loop-i-preserved : goal.loop-i-preserved
-loop-i-preserved c =
-    let a = c.args in (
-      omega arith,
-      length-set c.loop-i.room c.loop-i.i 0 ∙ c.loop-i.invariant.1,
-      wipe-next a.room.now c.loop-i.room c.loop-i.i (omega arith) c.loop-i.invariant.2,
-    )
+pub returns : goal.returns
+unfolding over
+returns c =
+    let a = c.args in
+    let e : c.fill.new.self ≡ replicate (length (take a.n a.room.now)) 0 = c.fill.ensures.after (λ y h. h) in
+    let n : length (take a.n a.room.now) ≡ a.n = length-take-le a.n a.room.now c.requires in
+    let r : length {A = ℕ} (replicate a.n 0) ≡ a.n = length-replicate a.n 0 in
+    rw (e, n, r)

@@ -7,4 +7,4 @@ returns c =
     let a = c.args in
     text-block-is (enciphers a.e) a.opening a.t a.k a.n a.d
     c.doubled-mask.ensures c.block-y.ensures c.feedback.ensures
-    c.xor.ensures
+    c.bitxor.ensures

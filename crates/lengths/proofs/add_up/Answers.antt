@@ -1,15 +1,12 @@
-use native.Mathlib.Omega.{arith}
-use Rattle.lengths.proofs.Lengths.{too_long, taken-off, all-taken-off}
+use Rattle.std.proofs.Common.{rules, tests, ◌∙◌}
+use Rattle.std.proofs.lemmas.Iterator.{YieldsList-from_slice}
+use Rattle.lengths.proofs.Fold.{adds_up}
 use Rattle.lengths.proofs.add_up.Goals as goal
-
-pub returns-then-lengths-i : goal.returns-then-lengths-i
-returns-then-lengths-i c =
-    too_long c.args.lengths.now c.loop-i.i (omega arith) c.loop-i.left c.loop-i.invariant (omega arith)
-
-pub loop-i-preserved : goal.loop-i-preserved
-loop-i-preserved c =
-    taken-off c.args.lengths.now c.loop-i.i (omega arith) c.loop-i.left c.loop-i.invariant (omega arith)
 
 pub returns : goal.returns
 returns c =
-    all-taken-off c.args.lengths.now c.loop-i.i (omega arith) c.loop-i.left c.loop-i.invariant
+    let a = c.args in
+    c.eq.ensures
+    ∙ adds_up _ _ _ (λ f h left n rest k. search (rules, tests)) (λ f h left n k. search (rules, tests))
+    _ a.whole c.try_fold.result a.lengths.now c.iter.result c.try_fold.new.self
+    (YieldsList-from_slice a.lengths.now c.iter.ensures.rest) c.try_fold.ensures.ran

@@ -1,36 +1,30 @@
-use mathlib.Core.Path.{◌≡◌, ap, sym, ◌∙◌}
-use Prim.Native.Nat.{◌+◌, ◌<◌}
-use native.Mathlib.Omega.{arith}
-use lib.ListN.{length}
+use Rattle.std.proofs.Common.{arith, sym, ap, Ok, ◌∙◌, ◌<◌, length}
 use Rattle.pack.specs.Pack.{reading}
-use Rattle.pack.specs.Reader.{is_card}
-use Rattle.pack.proofs.Cards.{card-place, read_is, read_next, judged-is}
-use Rattle.pack.proofs.Told.{card-arm, end-arm}
+use Rattle.pack.specs.Reader.{said, is_card}
+use Rattle.pack.proofs.Cards.{card-said, card-place, verdict-done, verdict-bad}
 use Rattle.pack.proofs.judge.Goals as goal
-use Rattle.pack.proofs.judge.Goals.{In-Word}
+use Rattle.pack.proofs.judge.Goals.{In-Some}
+
+-- a card is given at a place before the last
+before : (c : In-Some) → (c.loop-answer.place < length (reading c.args.pack.now).cards) × (c.loop-answer.place < 14)
+before c =
+    card-place c.args.pack.now c.loop-answer.place
+    (ap is_card (sym c.in-Ok.ensures ∙ ap (λ x. said (Ok x)) c.in-Some.is) ∙ card-said _)
+
+pub overflow_add-place : goal.overflow_add-place
+overflow_add-place c = omega (arith, (before c).1)
+
+pub loop-answer-smaller : goal.loop-answer-smaller
+loop-answer-smaller c = omega (arith, (before c).0)
+
+pub loop-answer-preserved : goal.loop-answer-preserved
+loop-answer-preserved c = omega (arith, (before c).0)
 
 pub returns-in_default : goal.returns-in_default
 returns-in_default c =
-    let a = c.args in
-    let p = c.loop-place.place in
-    judged-is a.pack.now p c.loop-place.invariant (read_is a.pack.now p c.read_at-read.ensures)
-    (end-arm _ c.in_default.not-Word c.in_default.not-Song c.in_default.not-Shuffle)
-    c.number_of.ensures c.bad_of.ensures
+    verdict-done c.args.pack.now c.loop-answer.place c.loop-answer.invariant
+    (sym (ap (λ x. said (Ok x)) c.in_default.is) ∙ c.in-Ok.ensures)
 
--- a card is given at a place before the last, and moves on by one
-placed : (c : In-Word) → let p = c.loop-place.place in
-    (p < length (reading c.args.pack.now).cards)
-    × (c.read_at-read.result.next ≡ p + 1)
-placed c =
-    let s = c.args.pack.now in
-    let p = c.loop-place.place in
-    let is = card-arm _ c.in-Word.is in (
-      (card-place s p (sym (ap is_card (read_is s p c.read_at-read.ensures)) ∙ is)).0,
-      read_next s p c.read_at-read.ensures is,
-    )
-
-pub loop-place-smaller : goal.loop-place-smaller
-loop-place-smaller c = let p = placed c in omega (arith, p.0, p.1)
-
-pub loop-place-preserved : goal.loop-place-preserved
-loop-place-preserved c = let p = placed c in omega (arith, p.0, p.1)
+pub returns-in-Err : goal.returns-in-Err
+returns-in-Err c =
+    verdict-bad c.args.pack.now c.loop-answer.place c.loop-answer.invariant c.in-Err.why c.in-Err.ensures

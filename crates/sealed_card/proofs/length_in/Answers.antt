@@ -1,7 +1,6 @@
-use native.Mathlib.Omega.{arith}
 use Rattle.sealed_card.specs.SealedCard.{length_in}
 use Rattle.sealed_card.proofs.length_in.Goals as goal
 
 pub returns : goal.returns
 unfolding length_in
-returns c = (c.two.ensures, omega arith)
+returns c = c.two.ensures

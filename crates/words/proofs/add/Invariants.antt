@@ -1,14 +1,10 @@
-use Prim.Native.Nat.{◌+◌, ◌-◌, ◌≤◌}
+use Prim.Native.Nat.{◌+◌}
 use mathlib.Core.Path.{◌≡◌}
-use lib.ListN.{length, drop}
+use lib.ListN.{drop}
 use Rattle.words.specs.Block.{part}
 use Rattle.words.specs.Bytes.{plus_at}
 use Rattle.words.proofs.add.Given as goal
 
 abbrev pub invariant-loop-i : goal.invariant-loop-i
 invariant-loop-i l =
-    (l.i ≤ l.m) × (length l.s ≡ length l.initial.s)
-    × (plus_at (l.at + l.i) l.s (drop l.i (part l.t l.from l.n)) ≡ plus_at l.at l.initial.s (part l.t l.from l.n))
-
-abbrev pub decreases-loop-i : goal.decreases-loop-i
-decreases-loop-i l = l.m - l.i
+    plus_at (l.at + l.i) l.s (drop l.i (part l.t l.from l.n)) ≡ plus_at l.at l.initial.s (part l.t l.from l.n)

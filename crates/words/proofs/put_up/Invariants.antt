@@ -1,14 +1,9 @@
-use Prim.Native.Nat.{◌+◌, ◌-◌, ◌≤◌}
+use Prim.Native.Nat.{◌+◌, ◌-◌}
 use mathlib.Core.Path.{◌≡◌}
-use lib.ListN.{length}
 use lib.Seq.{sets}
 use Rattle.words.specs.Bytes.{bytes}
 use Rattle.words.proofs.put_up.Given as goal
 
 abbrev pub invariant-loop-i : goal.invariant-loop-i
 invariant-loop-i l =
-    (l.i ≤ l.n) × (length l.s ≡ length l.initial.s)
-    × (sets l.s (l.at + l.i) (bytes (l.n - l.i) l.rest) ≡ sets l.initial.s l.at (bytes l.n l.w))
-
-abbrev pub decreases-loop-i : goal.decreases-loop-i
-decreases-loop-i l = l.n - l.i
+    sets l.s (l.at + l.i) (bytes (l.n - l.i) l.rest) ≡ sets l.initial.s l.at (bytes l.n l.w)

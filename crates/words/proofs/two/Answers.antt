@@ -15,4 +15,4 @@ returns-then-s-at c =
 pub returns : goal.returns
 returns c =
     let a = c.args in
-    omega (arith, number-two a.s.now a.at, c.byte.ensures.0, c.byte-2.ensures.0)
+    omega (arith, number-two a.s.now a.at, c.byte.ensures, c.byte-2.ensures, c.from_le_bytes.ensures)

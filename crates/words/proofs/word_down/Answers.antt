@@ -10,7 +10,7 @@ use Rattle.words.proofs.word_down.Goals.{In-loop-i}
 pub loop-i-init : goal.loop-i-init
 loop-i-init c =
     let a = c.args in
-    (omega arith, c.above-acc.ensures ∙ sym (rest-above a.s.now a.at a.n a.top c.requires.0 c.requires.1))
+    c.above-acc.ensures ∙ sym (rest-above a.s.now a.at a.n a.top c.requires.0 c.requires.1)
 
 -- what a step makes of acc, and that it fits
 turn : (c : In-loop-i) →
@@ -24,8 +24,8 @@ turn c =
     let l = c.loop-i in
     let g = c.type_inv.s in
     let s = a.s.now in (
-      rw l.invariant.1 (rest-next s a.at a.n a.top c.requires.0 c.requires.1 l.i c.loop-i-test.true
-          l.invariant.0),
+      rw l.invariant (rest-next s a.at a.n a.top c.requires.0 c.requires.1 l.i c.loop-i-test.true
+          (omega arith)),
       rest-fits s a.at a.n a.top c.requires.0 c.requires.1 (l.i - 1) (omega arith) (λ k. omega (arith, g k)),
     )
 
@@ -38,8 +38,8 @@ overflow_add-acc c = omega (
   arith,
   (turn (goal.at.overflow_add-acc c).In-loop-i).0,
   (turn (goal.at.overflow_add-acc c).In-loop-i).1,
-  c.wide.ensures,
+  c.from.ensures,
 )
 
 pub loop-i-preserved : goal.loop-i-preserved
-loop-i-preserved c = (omega arith, rw c.wide.ensures (turn (goal.at.loop-i-preserved c).In-loop-i).0)
+loop-i-preserved c = rw c.from.ensures (turn (goal.at.loop-i-preserved c).In-loop-i).0

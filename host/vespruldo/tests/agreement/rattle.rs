@@ -16,6 +16,10 @@ pub fn functions(text: &str) -> Functions {
             tokens.skip_through(";");
             continue;
         }
+        if tokens.take("mod") {
+            tokens.skip_through(";");
+            continue;
+        }
         tokens.expect("# [ unsafe ( no_mangle ) ] pub extern \"C\" fn");
         let name = tokens.name();
         let parameters = parameters(tokens.group());

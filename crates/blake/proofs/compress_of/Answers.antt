@@ -1,7 +1,0 @@
-use Rattle.blake.proofs.Hashing.{compress-is}
-use Rattle.blake.proofs.compress_of.Goals as goal
-
-pub returns : goal.returns
-returns c =
-    compress-is _ _ _ _ _ _ _ _ c.words_of-m.ensures
-    c.vector_of.ensures c.rounds_of-v.ensures c.folded_of.ensures
