@@ -2,7 +2,8 @@
 // and here inputs are read, outputs written and refusals put into words. The crate office hands its number on, and
 // cards_run is the program.
 // rt and o stay two parameters side by side: each function bounds what it asks of the system, as Env and no more, which
-// a struct of both would hide.
+// a struct of both would hide. `as`, in all modules: a number that is proved to fit, or the place of an enum's name in
+// its table, so that `try_from` would add an error that cannot come.
 #![tactic(auto)]
 
 ghost use Rattle.std.specs.Prelude.{◌<◌};

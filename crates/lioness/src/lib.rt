@@ -83,7 +83,7 @@ impl Step {
     fn number(self) -> usize
         ensures { (result ≡ number_of_step self) × (1 ≤ result) × (result ≤ 4) }
     {
-        self as usize
+        self as usize // the language's own way from an enum to its number
     }
 }
 
