@@ -63,9 +63,14 @@ back BatchForm = refl
 pub same-refusal : (m n : Refusal) → number_of_refusal m ≡ number_of_refusal n → m ≡ n
 same-refusal m n e = sym (back m) ∙ ap numbered e ∙ back n
 
--- what was done, or its refusal, is told by the number
+-- an answer is told by its number and by what goes beside that, if this tells what was done
+pub answer-told : {A B : Type 0} (beside : Result A Refusal → B) → ((x y : A) → beside (Ok x) ≡ beside (Ok y) → x ≡ y)
+    → (r s : Result A Refusal) → told r ≡ told s → beside r ≡ beside s → r ≡ s
+answer-told beside tells (Ok x) (Ok y) e f = ap Ok (tells x y f)
+answer-told beside tells (Ok x) (Err n) e f = absurd (refused-number n (sym e))
+answer-told beside tells (Err m) (Ok y) e f = absurd (refused-number m e)
+answer-told beside tells (Err m) (Err n) e f = ap Err (same-refusal m n e)
+
+-- what was done, or its refusal, is told by the number alone
 pub same-told : (r s : Result ⊤ Refusal) → told r ≡ told s → r ≡ s
-same-told (Ok x) (Ok y) e = refl
-same-told (Ok x) (Err n) e = absurd (refused-number n (sym e))
-same-told (Err m) (Ok y) e = absurd (refused-number m e)
-same-told (Err m) (Err n) e = ap Err (same-refusal m n e)
+same-told r s e = answer-told told (λ x y f. refl) r s e e
