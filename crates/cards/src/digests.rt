@@ -4,20 +4,23 @@ ghost use Rattle.std.specs.Prelude.{◌≤◌};
 use crate::options::{Opt, Options};
 use crate::refusal::{Refusal, What, Why};
 use crate::system::System;
-use crate::{inputs, limits, outputs, refusal};
+use crate::{inputs, outputs, refusal, rooms};
 
+#[inline(never)]
 pub(crate) fn digest(rt: &impl System, o: Options) -> Result<(), Refusal> {
-    let key = inputs::read_given(rt, o, Opt::Key, limits::DIGEST_KEY)?;
-    let text = inputs::read(rt, o, Opt::In, limits::TEXT)?;
+    let mut key_room: [u8; rooms::DIGEST_KEY] = rooms::zeros();
+    let mut text_room: [u8; rooms::TEXT] = rooms::zeros();
+    let key = inputs::read_given(rt, o, Opt::Key, &mut key_room)?;
+    let text = inputs::read(rt, o, Opt::In, &mut text_room)?;
     // Whoever names a key wants one: without --key there is none.
-    let key = match &key {
+    let key: &[u8] = match key {
         None => &[],
         Some(named) if named.is_empty() => return Err(refused(answers::Refusal::KeyLength)),
-        Some(named) => named.as_slice(),
+        Some(named) => named,
     };
     let mut room = [0u8; 65];
     let digest = &mut room[..length(inputs::number(rt, o, Opt::Length))];
-    blake::digest(key, &text, digest).map_err(refused)?;
+    blake::digest(key, text, digest).map_err(refused)?;
     outputs::finish(rt, o.printed(), false, digest)
 }
 

@@ -7,7 +7,7 @@ use crate::outputs::{Made, Place, Target};
 use crate::refusal::{Refusal, What, Why};
 use crate::system::System;
 use crate::text::Text;
-use crate::{files, inputs, names, outputs, refusal, text};
+use crate::{files, inputs, names, outputs, refusal, rooms, text};
 use drawer::{Drawer, Drawn};
 use std::io::{Error, ErrorKind, Read, Seek, SeekFrom};
 use std::rt::{Env, Files};
@@ -62,28 +62,27 @@ fn reader_said(rt: &impl System, o: Options, reader: u32) -> Result<(), Refusal>
 // Draws a number and writes it.
 pub(crate) fn draw(rt: &impl System, o: Options) -> Result<(), Refusal> {
     let h = take(rt, o)?;
-    let made = nonce_of(rt, h.drawer);
-    spend(rt, o.printed(), h.file, made)
+    let mut nonce = [0u8; 12];
+    let made = made_under(drawer::draw(h.drawer), |drawn| {
+        rooms::holding(&mut nonce, drawn);
+        Ok(())
+    });
+    spend(rt, o.printed(), h.file, made, &nonce)
 }
 
-// The nonce that is drawn, and the drawer's next state.
-fn nonce_of(rt: &impl System, d: Drawer) -> Result<(Vec<u8>, Drawer), Refusal> {
-    let drawn = drawer::draw(d).map_err(spent)?;
-    let nonce = outputs::joined(rt, &drawn.bytes, &[])?;
-    Ok((nonce, drawn.next))
-}
-
-// What is made under a nonce or an iv that is drawn, and the drawer's next state. What is wrong with the inputs is
-// refused before that the drawer is spent: so where it is, they are tried under zeros first. The two go on as a pair,
-// which is taken apart where it arrives: a struct would be no plainer.
-pub(crate) fn made_under<const N: usize, F: FnOnce(&[u8]) -> Result<Vec<u8>, Refusal>>(
+// Makes an output under a nonce or an iv that is drawn, and answers the drawer's next state. What is wrong with the
+// inputs is refused before that the drawer is spent: so where it is, they are tried under zeros first.
+pub(crate) fn made_under<const N: usize, F: FnOnce(&[u8]) -> Result<(), Refusal>>(
     drawn: Result<Drawn<N>, answers::Refusal>,
     makes: F,
-) -> Result<(Vec<u8>, Drawer), Refusal>
+) -> Result<Drawer, Refusal>
     requires { F.IsAlwaysCallable makes }
 {
     match drawn {
-        Ok(drawn) => Ok((makes(&drawn.bytes)?, drawn.next)),
+        Ok(drawn) => {
+            makes(&drawn.bytes)?;
+            Ok(drawn.next)
+        }
         Err(why) => {
             makes(&[0; N])?;
             Err(spent(why))
@@ -96,15 +95,16 @@ fn spent(why: answers::Refusal) -> Refusal {
     refusal::about(Opt::Drawer, What::Library(why), None)
 }
 
-// Keeps the next state in the file that is held for it, and then writes the output; `made` is both. Where something was
-// refused, the drawer stays as it was.
+// Keeps the next state in the file that is held for it, and then writes the output, if it could be made. Where
+// something was refused, the drawer stays as it was.
 pub(crate) fn spend<R: System>(
     rt: &R,
     o: Options,
     file: R::File,
-    made: Result<(Vec<u8>, Drawer), Refusal>,
+    made: Result<Drawer, Refusal>,
+    bytes: &[u8],
 ) -> Result<(), Refusal> {
-    let (bytes, next, target) = match claimed(rt, o, made) {
+    let (next, target) = match claimed(rt, o, made) {
         Ok(claimed) => claimed,
         Err(bad) => {
             let_go(rt, o, file);
@@ -115,18 +115,18 @@ pub(crate) fn spend<R: System>(
         outputs::release(rt, target);
         return Err(bad);
     }
-    outputs::write(rt, target, o, &bytes)
+    outputs::write(rt, target, o, bytes)
 }
 
-// The output and the next state, if they could be made, and what the output is written to.
+// The next state, if the output could be made, and what that is written to.
 fn claimed<R: System>(
     rt: &R,
     o: Options,
-    made: Result<(Vec<u8>, Drawer), Refusal>,
-) -> Result<(Vec<u8>, Drawer, Target<R::File>), Refusal> {
-    let (bytes, next) = made?;
+    made: Result<Drawer, Refusal>,
+) -> Result<(Drawer, Target<R::File>), Refusal> {
+    let next = made?;
     not_in_lock(rt, o)?;
-    Ok((bytes, next, outputs::claim(rt, o, false)?))
+    Ok((next, outputs::claim(rt, o, false)?))
 }
 
 // The folder beside the drawer is removed when it is kept, and nothing else may lie in it.

@@ -2,9 +2,8 @@
 use crate::options::{Opt, Options};
 use crate::refusal::{Refusal, What, Why};
 use crate::system::System;
-use crate::{STANDARD_ERROR, names, refusal};
+use crate::{STANDARD_ERROR, names, refusal, rooms};
 use hexadecimal::Hex;
-use std::alloc::Global;
 use std::io::{Error, Read};
 use std::rt::Env;
 
@@ -13,43 +12,54 @@ pub(crate) fn number(rt: &impl Env, o: Options, option: Opt) -> Option<u64> {
     decimal::number(o.word_of(rt, option).as_bytes())
 }
 
-// Reads the input that the option names, or standard input. Of one that has more than `most` bytes a byte more is read,
-// so that what is too long is seen.
-pub(crate) fn read(
+// Reads the input that the option names, or standard input, into a room, as far as it fits, and answers it.
+pub(crate) fn read<'a>(
     rt: &impl System,
     o: Options,
     option: Opt,
-    most: u32,
-) -> Result<Vec<u8>, Refusal> {
-    if !o.given(option) || o.is_dash(rt, option) {
-        return read_standard(rt, o, option, most);
-    }
-    let mut file = names::open_read(rt, o.word_of(rt, option)).map_err(|e| not_read(option, e))?;
-    taken_from(rt.alloc(), o, option, &mut file, most)
+    room: &'a mut [u8],
+) -> Result<&'a mut [u8], Refusal> {
+    let n = read_into(rt, o, option, room)?;
+    Ok(rooms::first(room, n))
 }
 
 // The same for an option that may be left out: then there is no input.
-pub(crate) fn read_given(
+pub(crate) fn read_given<'a>(
     rt: &impl System,
     o: Options,
     option: Opt,
-    most: u32,
-) -> Result<Option<Vec<u8>>, Refusal> {
+    room: &'a mut [u8],
+) -> Result<Option<&'a [u8]>, Refusal> {
     if !o.given(option) {
         return Ok(None);
     }
-    Ok(Some(read(rt, o, option, most)?))
+    let bytes: &'a [u8] = read(rt, o, option, room)?;
+    Ok(Some(bytes))
+}
+
+// Answers how many bytes the room holds then.
+fn read_into(rt: &impl System, o: Options, option: Opt, room: &mut [u8]) -> Result<usize, Refusal> {
+    if !o.given(option) || o.is_dash(rt, option) {
+        return read_standard(rt, o, option, room);
+    }
+    let mut file = names::open_read(rt, o.word_of(rt, option)).map_err(|e| not_read(option, e))?;
+    taken_from(o, option, &mut file, room)
 }
 
 // Whoever sits at a terminal is told that it is read, and how that ends.
-fn read_standard(rt: &impl System, o: Options, option: Opt, most: u32) -> Result<Vec<u8>, Refusal> {
+fn read_standard(
+    rt: &impl System,
+    o: Options,
+    option: Opt,
+    room: &mut [u8],
+) -> Result<usize, Refusal> {
     if rt.reads_terminal() {
         io::write_all(
             STANDARD_ERROR,
             b"cards: reading from the terminal: Ctrl-D ends it\n",
         );
     }
-    taken_from(rt.alloc(), o, option, &mut rt.reader(), most).map_err(or_closed)
+    taken_from(o, option, &mut rt.reader(), room).map_err(or_closed)
 }
 
 // What stands for standard input where that is closed is a directory.
@@ -67,21 +77,15 @@ pub(crate) fn not_read(option: Opt, e: Error) -> Refusal {
 }
 
 fn taken_from<R: Read>(
-    alloc: Global,
     o: Options,
     option: Opt,
     from: &mut R,
-    most: u32,
-) -> Result<Vec<u8>, Refusal> {
-    let no_memory = |_| refusal::no_memory(option, What::NotRead);
-    let mut bytes = vec![in alloc; 0u8; most as usize + 1].map_err(no_memory)?;
-    let n = if o.in_hex(option) {
-        hex_from(option, from, &mut bytes)?
-    } else {
-        raw_from(option, from, &mut bytes)?
-    };
-    bytes.truncate(n);
-    Ok(bytes)
+    room: &mut [u8],
+) -> Result<usize, Refusal> {
+    if o.in_hex(option) {
+        return hex_from(option, from, room);
+    }
+    raw_from(option, from, room)
 }
 
 // Reads until the end, or until the room is full, and answers how many bytes it holds. A read that a signal cuts off is

@@ -1,34 +1,22 @@
 // book and classes: a key book is made of entries, and its classes are listed.
+ghost use Rattle.std.specs.Prelude.{◌≤◌};
+
 use crate::options::{Opt, Options};
 use crate::refusal::{Refusal, What, Why};
 use crate::system::System;
-use crate::{inputs, keys, limits, outputs, refusal, text};
-use std::alloc::{AllocError, Global};
+use crate::{inputs, keys, outputs, refusal, rooms, text};
 use std::io::Print;
+use words::Block;
 
-// The entries that have been bound: how many, the last one's class, and the bytes of them all, 18 for each.
-// The count stands beside them: a book begins with it as a u16, which their length would have to be turned into.
+// The entries that have been bound: how many, the last one's class, and the room of the book, whose front they fill.
 #[derive(Drop)]
-struct Bound {
+struct Bound<'a> {
     count: u16,
     last: Option<u16>,
-    bytes: Vec<u8>,
+    room: &'a mut [u8],
 }
 
-// Why an entry is not bound: it is none, or there is no memory for it.
-#[derive(Drop)]
-enum Unbound {
-    Bad(Why),
-    NoMemory,
-}
-
-impl From<AllocError> for Unbound {
-    fn from(_: AllocError) -> Unbound {
-        Unbound::NoMemory
-    }
-}
-
-impl Bound {
+impl<'a> Bound<'a> {
     // What is wrong with the class of the next entry, or the class.
     fn class_of(&self, word: &[u8]) -> Result<u16, Why> {
         let number = decimal::number(word).ok_or(Why::BadClass)?;
@@ -42,40 +30,40 @@ impl Bound {
         Ok(class)
     }
 
-    fn bind(&mut self, class: u16, key: [u8; 16]) -> Result<(), AllocError> {
-        self.bytes.extend_from_slice(&class.to_le_bytes())?;
-        self.bytes.extend_from_slice(&key)?;
+    fn bind(&mut self, class: u16, key: [u8; 16]) {
+        let end = self.len();
+        words::store(self.room, end, 2, Block::from(u64::from(class)));
+        words::store(self.room, end + 2, 16, words::load(&key, 0, 16));
         self.count = self.count.saturating_add(1);
         self.last = Some(class);
-        Ok(())
     }
 
     // Binds all entries: words by turns of a class and a key.
-    fn bind_all(&mut self, entries: &[u8]) -> Result<(), Unbound> {
+    fn bind_all(&mut self, entries: &[u8]) -> Result<(), Why> {
         let mut class = None;
         for word in entries
             .split(|b| is_blank(*b))
             .filter(|word| !word.is_empty())
         {
             class = match class {
-                None => Some(self.class_of(word).map_err(Unbound::Bad)?),
+                None => Some(self.class_of(word)?),
                 Some(class) => {
-                    self.bind(class, key_of(word).map_err(Unbound::Bad)?)?;
+                    self.bind(class, key_of(word)?);
                     None
                 }
             };
         }
         match class {
             None => Ok(()),
-            Some(_) => Err(Unbound::Bad(Why::BadKey)),
+            Some(_) => Err(Why::BadKey),
         }
     }
 
-    // The bytes of the book.
-    fn book(&self, alloc: Global) -> Result<Vec<u8>, AllocError> {
-        let mut book = self.count.to_le_bytes().to_vec(alloc)?;
-        book.extend_from_slice(&self.bytes)?;
-        Ok(book)
+    // How long the book is: its count in two bytes, and 18 for each entry.
+    fn len(&self) -> usize
+        ensures { result ≤ 1179632 }
+    {
+        2 + 18 * usize::from(self.count)
     }
 }
 
@@ -94,42 +82,43 @@ fn is_blank(b: u8) -> bool {
     matches!(b, b' ' | b'\t' | b'\n' | b'\r')
 }
 
+#[inline(never)]
 pub(crate) fn book(rt: &impl System, o: Options) -> Result<(), Refusal> {
-    let entries = inputs::read(rt, o, Opt::In, limits::TEXT)?;
-    if entries.len() > limits::TEXT as usize {
+    let mut entries_room: [u8; rooms::TEXT] = rooms::zeros();
+    let mut room: [u8; rooms::BOOK] = rooms::zeros();
+    let entries = inputs::read(rt, o, Opt::In, &mut entries_room)?;
+    if entries.len() == rooms::TEXT {
         let what = What::Library(answers::Refusal::TextLength);
         return Err(refusal::about(Opt::In, what, Some(Why::Text1048576)));
     }
-    let book = made(rt.alloc(), &entries)?;
-    outputs::finish(rt, o, true, &book)
+    let n = made(entries, &mut room)?;
+    outputs::finish(rt, o, true, rooms::first(&mut room, n))
 }
 
-fn made(alloc: Global, entries: &[u8]) -> Result<Vec<u8>, Refusal> {
+// Makes the book of entries in a room, and answers how long it is.
+fn made(entries: &[u8], room: &mut [u8]) -> Result<usize, Refusal> {
     let mut bound = Bound {
         count: 0,
         last: None,
-        bytes: Vec::new(alloc),
+        room,
     };
-    if let Err(unbound) = bound.bind_all(entries) {
-        return Err(match unbound {
-            Unbound::Bad(why) => refusal::of_entry(
-                Some(u64::from(bound.count).saturating_add(1)),
-                why,
-            ),
-            Unbound::NoMemory => refusal::no_memory(Opt::In, What::NotRead),
-        });
+    if let Err(why) = bound.bind_all(entries) {
+        let entry = u64::from(bound.count).saturating_add(1);
+        return Err(refusal::of_entry(Some(entry), why));
     }
     if bound.count == 0 {
         return Err(refusal::of_entry(None, Why::NoEntry));
     }
-    bound
-        .book(alloc)
-        .map_err(|_| refusal::no_memory(Opt::In, What::NotRead))
+    let count = bound.count;
+    words::store(bound.room, 0, 2, Block::from(u64::from(count)));
+    Ok(bound.len())
 }
 
+#[inline(never)]
 pub(crate) fn classes(rt: &impl System, o: Options) -> Result<(), Refusal> {
-    let book = inputs::read(rt, o, Opt::Book, limits::BOOK)?;
-    list(rt, &book)
+    let mut room: [u8; rooms::BOOK] = rooms::zeros();
+    let book = inputs::read(rt, o, Opt::Book, &mut room)?;
+    list(rt, book)
 }
 
 // A line for each entry. Whether a book is well formed does not hang on the class that is looked for.

@@ -2,28 +2,36 @@
 use crate::options::{Opt, Options};
 use crate::refusal::{Refusal, What};
 use crate::system::System;
-use crate::{inputs, limits, refusal};
+use crate::{inputs, refusal, rooms};
 
-pub(crate) fn read(rt: &impl System, o: Options) -> Result<Vec<u8>, Refusal> {
-    if let Some(key) = inputs::read_given(rt, o, Opt::Key, limits::KEY)? {
-        return Ok(key);
+pub(crate) fn read<'a>(
+    rt: &impl System,
+    o: Options,
+    room: &'a mut [u8],
+) -> Result<&'a mut [u8], Refusal> {
+    if o.given(Opt::Key) {
+        return inputs::read(rt, o, Opt::Key, room);
     }
-    let this_term = inputs::read(rt, o, Opt::Book, limits::BOOK)?;
-    let last_term = last_book(rt, o)?;
-    let class = inputs::number(rt, o, Opt::Class).unwrap_or(0) % 65536;
-    let key = looked_up(&this_term, &last_term, class as u16)?;
-    key.to_vec(rt.alloc())
-        .map_err(|_| refusal::no_memory(Opt::Book, What::NotRead))
+    from_books(rt, o, room)
 }
 
 // Where last term's book is not named, one with no entry stands for it.
-fn last_book(rt: &impl System, o: Options) -> Result<Vec<u8>, Refusal> {
-    if let Some(book) = inputs::read_given(rt, o, Opt::LastBook, limits::BOOK)? {
-        return Ok(book);
-    }
-    EMPTY_BOOK
-        .to_vec(rt.alloc())
-        .map_err(|_| refusal::no_memory(Opt::Book, What::NotRead))
+#[inline(never)]
+fn from_books<'a>(
+    rt: &impl System,
+    o: Options,
+    room: &'a mut [u8],
+) -> Result<&'a mut [u8], Refusal> {
+    let mut this_room: [u8; rooms::BOOK] = rooms::zeros();
+    let mut last_room: [u8; rooms::BOOK] = rooms::zeros();
+    let this_term = inputs::read(rt, o, Opt::Book, &mut this_room)?;
+    let last_term: &[u8] = match inputs::read_given(rt, o, Opt::LastBook, &mut last_room)? {
+        Some(book) => book,
+        None => &EMPTY_BOOK,
+    };
+    let class = inputs::number(rt, o, Opt::Class).unwrap_or(0) % 65536;
+    let key = looked_up(this_term, last_term, class as u16)?;
+    Ok(rooms::holding(room, key))
 }
 
 // A key book with no entry: its count alone, in two bytes.

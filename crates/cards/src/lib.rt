@@ -24,13 +24,13 @@ mod help; // help.rt
 mod inputs; // inputs.rt: files and standard input, raw or in hex
 mod key_books; // key_books.rt: book and classes
 mod keys; // keys.rt: a key from its file or from key books
-mod limits; // limits.rt: how many bytes an input may have
 mod names; // names.rt: files by name
 mod options; // options.rt: the options' table, and which are given
 mod outputs; // outputs.rt: files written beside and renamed, and standard output
 mod packs; // packs.rt: pack
 mod parse; // parse.rt: the command line
 mod refusal; // refusal.rt: what was refused, and its line
+mod rooms; // rooms.rt: the rooms for inputs and outputs
 mod rules; // rules.rt: which options go together
 mod sealing; // sealing.rt: seal, open and check
 mod shows; // shows.rt: show

@@ -45,19 +45,6 @@ pub(crate) fn finish(
     write(rt, target, o, bytes)
 }
 
-// A room of this length, of zeros, for an output.
-pub(crate) fn room(rt: &impl System, len: usize) -> Result<Vec<u8>, Refusal> {
-    vec![in rt.alloc(); 0u8; len].map_err(|_| refusal::no_memory(Opt::Out, What::NotWritten))
-}
-
-// An output of two parts, one behind the other.
-pub(crate) fn joined(rt: &impl System, a: &[u8], b: &[u8]) -> Result<Vec<u8>, Refusal> {
-    let no_memory = |_| refusal::no_memory(Opt::Out, What::NotWritten);
-    let mut bytes = a.to_vec(rt.alloc()).map_err(no_memory)?;
-    bytes.extend_from_slice(b).map_err(no_memory)?;
-    Ok(bytes)
-}
-
 // Where the system did not write or make a file.
 pub(crate) fn not_written(option: Opt, e: Error) -> Refusal {
     refusal::by_system(option, What::NotWritten, e)

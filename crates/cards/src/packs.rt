@@ -3,14 +3,15 @@ use crate::options::{Opt, Options};
 use crate::refusal::Refusal;
 use crate::system::System;
 use crate::text::Text;
-use crate::{inputs, limits, outputs, refusal, text};
+use crate::{inputs, outputs, refusal, rooms, text};
 use pack::{Card, Kind};
 
 // All of the pack is judged before a card is told.
 pub(crate) fn pack(rt: &impl System, o: Options) -> Result<(), Refusal> {
-    let bytes = inputs::read(rt, o, Opt::In, limits::PACK)?;
-    let cards = pack::judge(&bytes).map_err(refusal::of_pack)?;
-    outputs::said(rt, lines(&bytes, cards))
+    let mut room: [u8; rooms::PACK] = rooms::zeros();
+    let bytes = inputs::read(rt, o, Opt::In, &mut room)?;
+    let cards = pack::judge(bytes).map_err(refusal::of_pack)?;
+    outputs::said(rt, lines(bytes, cards))
 }
 
 // A line for each card.

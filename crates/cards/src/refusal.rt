@@ -91,12 +91,10 @@ pub(crate) enum Why {
     TooMany,
 }
 
-// Error numbers of the system's: ENOENT, EIO, ENOMEM and EISDIR.
+// Error numbers of the system's: ENOENT, EIO and EISDIR.
 pub(crate) const NO_SUCH_FILE: i32 = 2;
 
 const INPUT_OR_OUTPUT: i32 = 5;
-
-const OUT_OF_MEMORY: i32 = 12;
 
 pub(crate) const A_DIRECTORY: i32 = 21;
 
@@ -279,11 +277,6 @@ pub(crate) fn about(option: Opt, what: What, why: Option<Why>) -> Refusal {
 // Of an option, where the system refused, for the reason that it gave.
 pub(crate) fn by_system(option: Opt, what: What, e: Error) -> Refusal {
     about(option, what, Some(Why::from(e)))
-}
-
-// Of an input or an output for which there is no memory.
-pub(crate) fn no_memory(option: Opt, what: What) -> Refusal {
-    about(option, what, Some(Why::System(OUT_OF_MEMORY)))
 }
 
 // Of an entry of a key book, or of all of them.

@@ -4,7 +4,7 @@ use crate::options::{Opt, Options};
 use crate::refusal::{Refusal, What};
 use crate::system::System;
 use crate::text::Text;
-use crate::{drawers, files, inputs, limits, names, outputs, refusal, text};
+use crate::{drawers, files, inputs, names, outputs, refusal, rooms, text};
 use drawer::Drawer;
 use std::io::Print;
 
@@ -12,8 +12,9 @@ pub(crate) fn show(rt: &impl System, o: Options) -> Result<(), Refusal> {
     if o.given(Opt::Drawer) {
         return show_drawer(rt, o.word_of(rt, Opt::Drawer));
     }
-    let card = inputs::read(rt, o, Opt::In, limits::CARD)?;
-    show_card(rt, &card)
+    let mut room: [u8; rooms::CARD] = rooms::zeros();
+    let card = inputs::read(rt, o, Opt::In, &mut room)?;
+    show_card(rt, card)
 }
 
 // Only a regular file is opened: to open a pipe could take forever.

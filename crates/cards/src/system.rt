@@ -1,5 +1,5 @@
-// What the tool asks of the system: files by name, the words of the command line, the standard streams, random bytes
-// and memory.
+// What the tool asks of the system: files by name, the words of the command line, the standard streams and random
+// bytes.
 // The methods are of the library's files and streams, which it does not promise of every system's.
 use std::io::{Input, IsTerminal, Print, Result};
 use std::os::fd::{AsFd, AsRawFd, IntoRawFd};
@@ -7,7 +7,7 @@ use std::os::unix::fs::fchown;
 use std::random::RandomSource;
 use std::rt::{Env, Files};
 
-pub trait System: Files + Env + Print + Input + RandomSource + AllocGlobal {
+pub trait System: Files + Env + Print + Input + RandomSource {
     // Whether standard input is a terminal.
     fn reads_terminal(&self) -> bool;
 
@@ -18,7 +18,7 @@ pub trait System: Files + Env + Print + Input + RandomSource + AllocGlobal {
     fn kept_as_standard(&self, file: Self::File) -> bool;
 }
 
-impl<R: Files + Env + Print + Input + RandomSource + AllocGlobal> System for R
+impl<R: Files + Env + Print + Input + RandomSource> System for R
 where
     R::File: AsFd + AsRawFd + IntoRawFd,
     R::Reader: IsTerminal,

@@ -2,48 +2,59 @@
 use crate::options::{Opt, Options};
 use crate::refusal::{Refusal, What, Why};
 use crate::system::System;
-use crate::{drawers, inputs, limits, outputs, refusal};
+use crate::{drawers, inputs, outputs, refusal, rooms};
 
 // Enciphers a block. The iv is the one that is read, or is drawn.
+#[inline(never)]
 pub(crate) fn encipher(rt: &impl System, o: Options) -> Result<(), Refusal> {
-    let key = inputs::read(rt, o, Opt::Key, limits::WIDE_KEY)?;
-    let iv = inputs::read_given(rt, o, Opt::Iv, limits::IV)?;
-    let mut block = inputs::read(rt, o, Opt::In, limits::BLOCK)?;
-    match iv {
-        Some(iv) => outputs::finish(rt, o, false, &enciphered(rt, &key, &iv, &mut block)?),
-        None => encipher_drawn(rt, o, &key, &mut block),
-    }
+    let mut key_room: [u8; rooms::WIDE_KEY] = rooms::zeros();
+    let mut iv_room: [u8; rooms::IV] = rooms::zeros();
+    let mut room: [u8; rooms::WIDE_FILE] = rooms::zeros();
+    let key = inputs::read(rt, o, Opt::Key, &mut key_room)?;
+    let iv = inputs::read_given(rt, o, Opt::Iv, &mut iv_room)?;
+    let (_, behind) = iv_and_block(&mut room);
+    let n = inputs::read(rt, o, Opt::In, behind)?.len();
+    let file = rooms::first(&mut room, 48 + n);
+    let Some(iv) = iv else {
+        return encipher_drawn(rt, o, key, file);
+    };
+    enciphered(key, iv, file)?;
+    outputs::finish(rt, o, false, file)
 }
 
 fn encipher_drawn(
     rt: &impl System,
     o: Options,
     key: &[u8],
-    block: &mut [u8],
+    file: &mut [u8],
 ) -> Result<(), Refusal> {
     let h = drawers::take(rt, o)?;
-    let made = drawers::made_under(drawer::iv(h.drawer), |iv| enciphered(rt, key, iv, block));
-    drawers::spend(rt, o, h.file, made)
+    let made = drawers::made_under(drawer::iv(h.drawer), |iv| enciphered(key, iv, file));
+    drawers::spend(rt, o, h.file, made, file)
 }
 
-// Enciphers the block, and answers the wide file: the iv and the block.
-fn enciphered(
-    rt: &impl System,
-    key: &[u8],
-    iv: &[u8],
-    block: &mut [u8],
-) -> Result<Vec<u8>, Refusal> {
+// Enciphers the block of a wide file, and puts the iv before it.
+fn enciphered(key: &[u8], iv: &[u8], file: &mut [u8]) -> Result<(), Refusal> {
+    let (front, block) = iv_and_block(file);
     lioness::encipher(key, iv, block).map_err(enciphering)?;
-    outputs::joined(rt, iv, block)
+    rooms::holding(front, iv);
+    Ok(())
+}
+
+// The iv of a wide file, and the block behind it.
+fn iv_and_block(file: &mut [u8]) -> (&mut [u8], &mut [u8]) {
+    let front = file.len().min(48);
+    file.split_at_mut(front)
 }
 
 // Deciphers the block of a wide file.
+#[inline(never)]
 pub(crate) fn decipher(rt: &impl System, o: Options) -> Result<(), Refusal> {
-    let key = inputs::read(rt, o, Opt::Key, limits::WIDE_KEY)?;
-    let mut file = inputs::read(rt, o, Opt::In, limits::WIDE_FILE)?;
-    let front = file.len().min(48);
-    let (iv, block) = file.split_at_mut(front);
-    lioness::decipher(&key, iv, block).map_err(deciphering)?;
+    let mut key_room: [u8; rooms::WIDE_KEY] = rooms::zeros();
+    let mut room: [u8; rooms::WIDE_FILE] = rooms::zeros();
+    let key = inputs::read(rt, o, Opt::Key, &mut key_room)?;
+    let (iv, block) = iv_and_block(inputs::read(rt, o, Opt::In, &mut room)?);
+    lioness::decipher(key, iv, block).map_err(deciphering)?;
     outputs::finish(rt, o, false, block)
 }
 
