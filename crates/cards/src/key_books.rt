@@ -4,7 +4,9 @@ ghost use Rattle.std.specs.Prelude.{◌≤◌};
 use crate::options::{Opt, Options};
 use crate::refusal::{Refusal, What, Why};
 use crate::system::System;
-use crate::{inputs, keys, outputs, refusal, rooms, text};
+use crate::text::Text;
+use crate::{inputs, keys, outputs, refusal, rooms};
+use std::fmt::Write;
 use std::io::Print;
 use words::Block;
 
@@ -127,9 +129,13 @@ fn list(rt: &impl Print, book: &[u8]) -> Result<(), Refusal> {
         let what = What::Library(answers::Refusal::BookForm);
         return Err(refusal::about(Opt::Book, what, None));
     }
+    // One text for all lines: a new one for each is filled with zeros, and copied.
+    let mut line = Text::new();
     for entry in book.get(2..).unwrap_or(&[]).chunks(18) {
         let class = words::two(entry, 0);
-        outputs::said(rt, text::formatted(format_args!("{class}\n")))?;
+        line.clear();
+        let _ = write!(line, "{class}\n");
+        outputs::printed(rt.write_all(line.as_bytes()))?;
     }
     Ok(())
 }

@@ -53,6 +53,10 @@ impl Text {
         self.len == 0
     }
 
+    pub(crate) fn clear(&mut self) {
+        self.len = 0;
+    }
+
     // Puts s behind the text, as far as that fits.
     pub(crate) fn push(&mut self, s: &[u8]) {
         let more = s.len().min(ROOM - self.len);
